@@ -1,0 +1,19 @@
+use crate::token::At;
+use crate::token::AtPartialEq;
+
+// What is wrong with a text, and where.
+#[derive(Clone, Copy, PartialEq, Eq)]
+pub enum TextFault {
+    // a byte that begins no token
+    Stray(At),
+    // a number out of range or with a needless zero, or # without digits
+    BadNumber(At),
+    // a token that is not allowed here, or the end too early
+    Unexpected(At),
+    // a name that is not declared
+    Undeclared(At),
+    // another number of arguments than the operator takes, at its name
+    WrongArity(At),
+    // a limit passed
+    PastLimit(At),
+}

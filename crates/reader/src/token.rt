@@ -1,0 +1,30 @@
+// A byte that is a token by itself: ( ) , = - blank and line end.
+#[derive(Clone, Copy, PartialEq, Eq)]
+pub enum Mark {
+    Opening,
+    Closing,
+    Comma,
+    Equals,
+    Dash,
+    Blank,
+    LineEnd,
+}
+
+// A token. Names, numbers and instruments are the parts of the text that they were read from.
+#[derive(Clone, Copy)]
+pub enum Token<'t> {
+    Name(&'t [u8]),
+    Number(&'t [u8]),
+    Instrument(&'t [u8]),
+    Variable(u8),
+    Mark(Mark),
+    // a byte that begins no token
+    Stray(u8),
+}
+
+// The byte place and the line of a token, both from 0.
+#[derive(Clone, Copy, PartialEq, Eq)]
+pub struct At {
+    pub place: usize,
+    pub line: usize,
+}

@@ -1,0 +1,32 @@
+use mathlib.Core.Path.{_≡_, refl, sym, ap, subst, _∙_}
+use mathlib.Core.Logic.{inl, inr}
+use native.Mathlib.Omega.{arith}
+use lib.ListN.{length-set}
+use Rattle.terms.specs.Signature.{Spelt, Apart, Ranked}
+use Rattle.terms.specs.Declaring.{sig-of}
+use Rattle.terms.proofs.Operators.{declared-count, declared-again}
+use Rattle.terms.proofs.Signatures.{spelt-again, apart-again, ranked-again}
+use Rattle.terms.proofs.signature.Signature.rank.Needs as need
+
+pub returns-then-at-self : need.returns-then-at-self
+returns-then-at-self c = let s = c .args .self .now in (refl, inl (omega (arith, declared-count (s .operators) (s .len) (omega arith))))
+
+pub returns-then-arity-gt3 : need.returns-then-arity-gt3
+returns-then-arity-gt3 c = (refl, inr (omega arith))
+
+pub ghost-self : need.ghost-self
+ghost-self c =
+    let s = c .args .self .now in
+    let f = c .args .operator in
+    let n = c .args .arity in
+    let many = declared-count (s .operators) (s .len) (omega arith) in
+    let e = sym (declared-again (s .operators) (s .len) (omega arith) f _ (c .ranked .result) n (omega arith) (c .ranked .ensures)) in
+    (length-set (s .operators) f _ ∙ s .whole, (omega arith,
+    (subst Spelt e (spelt-again (sig-of s) f n (omega arith) (s .spelt)),
+    (subst Apart e (apart-again (sig-of s) f n (omega arith) (s .apart)),
+    (subst Ranked e (ranked-again (sig-of s) f n (omega arith) (omega arith) (s .ranked)), tt)))))
+
+pub returns : need.returns
+returns c =
+    let s = c .args .self .now in
+    (declared-again (s .operators) (s .len) (omega arith) (c .args .operator) _ (c .ranked .result) (c .args .arity) (omega arith) (c .ranked .ensures), omega (arith, declared-count (s .operators) (s .len) (omega arith)), omega arith)

@@ -1,0 +1,11 @@
+pub mod Term
+pub mod Signature
+pub mod Ticket
+pub mod Substitution
+pub mod Position
+pub mod Text
+pub mod View
+pub mod Nodes
+pub mod Layout
+pub mod Operators
+pub mod Declaring

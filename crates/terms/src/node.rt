@@ -1,0 +1,9 @@
+use crate::symbol::Symbol;
+
+// A symbol, the place of its first argument and the place of its next sibling.
+#[derive(Clone, Copy)]
+pub struct Node {
+    pub symbol: Symbol,
+    pub first: Option<u16>,
+    pub next: Option<u16>,
+}
