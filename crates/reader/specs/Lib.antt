@@ -1,6 +1,7 @@
 pub mod Refusals
 pub mod Tokens
 pub mod Numbers
+pub mod Lexing
 pub mod Reading
 pub mod Laws
 pub mod Cases

@@ -1,9 +1,8 @@
 -- Numbers in decimal, and the numbers of instruments.
-use mathlib.Core.Bool.{Bool, true, false, cond, not, _&&_}
+use mathlib.Core.Bool.{Bool, true, false, cond, not}
 use mathlib.Core.List.{List, [], _∷_}
-use Prim.Native.Nat.{ℕ}
+use Prim.Native.Nat.{ℕ, _+_, _*_, _-_}
 use lib.Dec.{eqb, leb}
-use Rattle.std.specs.Reads.{value}
 use Rattle.std.specs.declared.option.Option.{Option}
 use Rattle.std.specs.declared.option.Option.the-variants.{Some, None}
 
@@ -13,9 +12,17 @@ plain [] = false
 plain (d ∷ []) = true
 plain (d ∷ e ∷ ds) = not (eqb d 48)
 
--- the number that digits write, up to a largest one
+-- the number that digits write behind those of n
+abbrev pub value-after : ℕ → List ℕ → ℕ
+value-after n [] = n
+value-after n (d ∷ ds) = value-after (n * 10 + (d - 48)) ds
+
+abbrev pub up-to : ℕ → ℕ → Option ℕ
+up-to most n = cond (leb n most) (Some n) None
+
+-- the number that digits write, without a needless zero and up to a largest one
 abbrev pub numbered : ℕ → List ℕ → Option ℕ
-numbered most ds = cond (plain ds && leb (value 10 ds) most) (Some (value 10 ds)) None
+numbered most ds = cond (plain ds) (up-to most (value-after 0 ds)) None
 
 -- of '#' and digits
 abbrev pub instrument-number : List ℕ → Option ℕ

@@ -1,4 +1,6 @@
 // Texts read: tokens, tickets, and what is wrong with a text.
 pub mod token;
+pub mod lexer;
+pub mod number;
 pub mod fault;
 pub mod refusal;

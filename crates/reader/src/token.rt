@@ -1,3 +1,6 @@
+ghost use Prim.Native.Nat.{_+_, _^_, _<_, _≤_};
+ghost use lib.ListN.{length};
+
 // A byte that is a token by itself: ( ) , = - blank and line end.
 #[derive(Clone, Copy, PartialEq, Eq)]
 pub enum Mark {
@@ -27,4 +30,21 @@ pub enum Token<'t> {
 pub struct At {
     pub place: usize,
     pub line: usize,
+}
+
+// A token with its place.
+#[derive(Clone, Copy)]
+pub struct Lexeme<'t> {
+    pub token: Token<'t>,
+    pub at: At,
+}
+
+// What is left of a text, and where that begins.
+#[derive(Clone, Copy)]
+pub struct Lexer<'t> {
+    pub rest: &'t [u8],
+    pub place: usize,
+    pub line: usize,
+    ghost fits: { place + length (rest .now) < 2 ^ 64 },
+    ghost few: { line ≤ place },
 }

@@ -3,3 +3,6 @@ pub mod Nodes
 pub mod Spelling
 pub mod Operators
 pub mod Signatures
+pub mod Readable
+pub mod Standing
+pub mod Laying

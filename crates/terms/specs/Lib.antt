@@ -9,3 +9,4 @@ pub mod Nodes
 pub mod Layout
 pub mod Operators
 pub mod Declaring
+pub mod Laws

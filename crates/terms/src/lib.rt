@@ -6,3 +6,4 @@ pub mod renamed;
 pub mod layout;
 pub mod operator;
 pub mod signature;
+pub mod laws;

@@ -22,7 +22,8 @@ impl<const N: usize> Layout<N> {
 
     // How many nodes are in use.
     pub fn len(&self) -> usize
-        ensures { λ r. ⌜ r ≡ length (in-use (now (self .entry))) ⌝ }
+        ensures value { λ r. ⌜ r ≡ length (in-use (now (self .entry))) ⌝ }
+        ensures few { λ r. ⌜ r ≤ N ⌝ }
     {
         self.len
     }
