@@ -3,5 +3,7 @@ pub mod Tokens
 pub mod Numbers
 pub mod Lexing
 pub mod Reading
+pub mod Frames
+pub mod Parsing
 pub mod Laws
 pub mod Cases

@@ -3,4 +3,6 @@ pub mod token;
 pub mod lexer;
 pub mod number;
 pub mod fault;
+pub mod frames;
+pub mod parser;
 pub mod refusal;
