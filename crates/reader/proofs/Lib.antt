@@ -1,6 +1,7 @@
 pub mod Runs
-pub mod Tokens
 pub mod Values
 pub mod Piles
 pub mod Stacks
 pub mod Parsing
+pub mod Sparse
+pub mod Going

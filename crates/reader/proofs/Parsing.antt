@@ -16,15 +16,15 @@ use Rattle.terms.specs.declared.layout.Layout.{Layout}
 use Rattle.terms.specs.Term.{Term, variable, instrument, apply, Terms, nil, cons, symbols, symbols-in}
 use Rattle.terms.specs.Nodes.{laid, with-next}
 use Rattle.terms.specs.Layout.{in-use, Lays-out}
-use Rattle.reader.specs.declared.token.At.{At}
-use Rattle.reader.specs.declared.fault.TextFault.{TextFault}
+use Rattle.reading.specs.declared.token.At.{At}
+use Rattle.reading.specs.declared.fault.TextFault.{TextFault}
 use Rattle.reader.specs.declared.frames.Frame.{Frame}
 use Rattle.reader.specs.declared.frames.Frames.{Frames}
 use Rattle.reader.specs.declared.parser.Phase.{Phase}
 use Rattle.reader.specs.declared.parser.Phase.the-variants.{Wants, Opens, Has}
 use Rattle.reader.specs.declared.parser.Parser.{Parser}
 use Rattle.reader.specs.Frames.{held, is-nil, piled}
-use Rattle.reader.specs.Reading.{Stack, top, within, State, wants, opens, has, and-then, closed, continued, ending}
+use Rattle.reading.specs.Reading.{Stack, top, within, State, wants, opens, has, and-then, closed, continued, ending}
 use Rattle.reader.specs.Parsing.{operator-node, linked, stack-nodes, stack-frames, state-nodes, Holds, Sparse, Roomy}
 use Rattle.reader.proofs.Stacks.{closed-nodes, continued-nodes, fewer-frames}
 

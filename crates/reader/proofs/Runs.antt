@@ -10,9 +10,9 @@ use lib.Seq.{drop-cons}
 use Rattle.std.proofs.shelf.Lists.{drop-all}
 use Rattle.std.proofs.shelf.Tests.{cond-both, cond-true, cond-false, and-parts, leb-true, eqb-true}
 use Rattle.terms.specs.Signature.{lower, digit, word}
-use Rattle.reader.specs.declared.token.Mark.{Mark}
-use Rattle.reader.specs.declared.token.Mark.the-variants.{Opening, Closing, Comma, Equals, Dash, Blank, LineEnd}
-use Rattle.reader.specs.Tokens.{Tok, a-name, a-number, an-instrument, a-variable, a-mark, a-stray, front, single, first-token, token-bytes, mark-byte, mark-lines, lines, tokens-from, tokens}
+use Rattle.reading.specs.declared.token.Mark.{Mark}
+use Rattle.reading.specs.declared.token.Mark.the-variants.{Opening, Closing, Comma, Equals, Dash, Blank, LineEnd}
+use Rattle.reading.specs.Tokens.{Tok, a-name, a-number, an-instrument, a-variable, a-mark, a-stray, front, single, first-token, token-bytes, mark-byte, mark-lines, lines, tokens-from, tokens}
 
 -- one byte more
 pub front-on : (p : ℕ → Bool) (bs : List ℕ) (k n m : ℕ) → n < length bs → k ≡ suc m → p (getD bs n 0) ≡ true → length (front p k (drop n bs)) ≡ suc (length (front p m (drop (suc n) bs)))

@@ -12,7 +12,7 @@ use Rattle.terms.specs.declared.node.Node.{Node}
 use Rattle.terms.specs.Term.{Term, variable, instrument, apply, Terms, nil, cons, symbols, symbols-in}
 use Rattle.terms.specs.Nodes.{vacant, start, laid, laid-row, with-next}
 use Rattle.terms.proofs.Laying.{length-laid}
-use Rattle.reader.specs.Reading.{Stack, top, within, State, wants, opens, has, and-then}
+use Rattle.reading.specs.Reading.{Stack, top, within, State, wants, opens, has, and-then}
 use Rattle.reader.specs.Parsing.{operator-node, linked, stack-nodes, stack-frames, state-nodes, Leaf}
 
 start-then : (i : ℕ) (ts : Terms) (t : Term) → start i (and-then ts t) ≡ Some i

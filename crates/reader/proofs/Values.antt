@@ -11,7 +11,7 @@ use Rattle.std.specs.declared.option.Option.{Option}
 use Rattle.std.specs.declared.option.Option.the-variants.{Some, None}
 use Rattle.std.proofs.shelf.Tests.{lt-leb, le-leb}
 use Rattle.std.proofs.shelf.Lists.{drop-all}
-use Rattle.reader.specs.Numbers.{value-after, up-to, numbered, instrument-number}
+use Rattle.reading.specs.Numbers.{value-after, up-to, numbered, instrument-number}
 
 value-grows : (n : ℕ) (ds : List ℕ) → n ≤ value-after n ds
 value-grows n [] = omega arith

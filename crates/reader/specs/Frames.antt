@@ -8,7 +8,7 @@ use Rattle.std.specs.declared.option.Option.{Option}
 use Rattle.std.specs.declared.option.Option.the-variants.{Some, None}
 use Rattle.reader.specs.declared.frames.Frame.{Frame}
 use Rattle.reader.specs.declared.frames.Frames.{Frames}
-use Rattle.reader.specs.Tokens.{origin}
+use Rattle.reading.specs.Tokens.{origin}
 
 abbrev pub no-frame : Frame
 no-frame = record { node = 0; at = origin; left = 0 }

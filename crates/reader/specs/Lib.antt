@@ -1,9 +1,4 @@
-pub mod Refusals
-pub mod Tokens
-pub mod Numbers
 pub mod Lexing
-pub mod Reading
 pub mod Frames
 pub mod Parsing
-pub mod Laws
-pub mod Cases
+pub mod Ticket

@@ -14,14 +14,14 @@ use Rattle.terms.specs.declared.symbol.Symbol.the-variants.{Variable, Instrumen
 use Rattle.terms.specs.Term.{Term, variable, instrument, apply, Terms, nil, cons, symbols}
 use Rattle.terms.specs.Nodes.{laid}
 use Rattle.terms.specs.Layout.{in-use, Lays-out}
-use Rattle.reader.specs.declared.token.At.{At}
-use Rattle.reader.specs.declared.fault.TextFault.{TextFault}
+use Rattle.reading.specs.declared.token.At.{At}
+use Rattle.reading.specs.declared.fault.TextFault.{TextFault}
 use Rattle.reader.specs.declared.frames.Frame.{Frame}
 use Rattle.reader.specs.declared.parser.Phase.{Phase}
 use Rattle.reader.specs.declared.parser.Phase.the-variants.{Wants, Opens, Has}
 use Rattle.reader.specs.declared.parser.Parser.{Parser}
 use Rattle.reader.specs.Frames.{held}
-use Rattle.reader.specs.Reading.{Stack, top, within, State, wants, opens, has}
+use Rattle.reading.specs.Reading.{Stack, top, within, State, wants, opens, has}
 
 -- an operator whose arguments begin at the next place
 abbrev pub operator-node : ℕ → ℕ → Node

@@ -2,13 +2,13 @@ ghost use mathlib.Core.Path.{_≡_};
 ghost use mathlib.Core.List.{_∷_};
 ghost use Prim.Native.Nat.{ℕ, _+_, _-_, _^_, _<_, _≤_};
 ghost use lib.ListN.{length, getD, drop};
-ghost use Rattle.reader.specs.Tokens.{front, single, first-token, token-bytes, lines, origin};
+ghost use Rattle.reading.specs.Tokens.{front, single, first-token, first-of-text, token-bytes, lines, origin};
 ghost use Rattle.std.specs.Options.{mapped};
-ghost use Rattle.reader.specs.Lexing.{in-class, meaning, first-of-text, what-is-left, now-at, Lexed};
-use crate::token::At;
+ghost use Rattle.reader.specs.Lexing.{in-class, meaning, what-is-left, now-at, Lexed};
+use reading::token::At;
 use crate::token::Lexeme;
 use crate::token::Lexer;
-use crate::token::Mark;
+use reading::token::Mark;
 use crate::token::Token;
 
 // A name has at most so many bytes behind its first.

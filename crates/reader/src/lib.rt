@@ -2,7 +2,7 @@
 pub mod token;
 pub mod lexer;
 pub mod number;
-pub mod fault;
+pub mod judging;
 pub mod frames;
 pub mod parser;
-pub mod refusal;
+pub mod ticket;

@@ -1,5 +1,5 @@
 ghost use mathlib.Core.Path.{_≡_};
-ghost use Rattle.reader.specs.Numbers.{plain, value-after, up-to, numbered, instrument-number};
+ghost use Rattle.reading.specs.Numbers.{plain, value-after, up-to, numbered, instrument-number};
 
 // The largest number of an instrument.
 const LARGEST_INSTRUMENT: u32 = 999_999;

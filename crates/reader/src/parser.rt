@@ -1,6 +1,6 @@
 use crate::frames::Frame;
 use crate::frames::Frames;
-use crate::token::At;
+use reading::token::At;
 use terms::layout::Layout;
 
 pub mod parsing;

@@ -1,17 +1,8 @@
 ghost use Prim.Native.Nat.{_+_, _^_, _<_, _≤_};
 ghost use lib.ListN.{length};
 
-// A byte that is a token by itself: ( ) , = - blank and line end.
-#[derive(Clone, Copy, PartialEq, Eq)]
-pub enum Mark {
-    Opening,
-    Closing,
-    Comma,
-    Equals,
-    Dash,
-    Blank,
-    LineEnd,
-}
+use reading::token::At;
+use reading::token::Mark;
 
 // A token. Names, numbers and instruments are the parts of the text that they were read from.
 #[derive(Clone, Copy)]
@@ -23,13 +14,6 @@ pub enum Token<'t> {
     Mark(Mark),
     // a byte that begins no token
     Stray(u8),
-}
-
-// The byte place and the line of a token, both from 0.
-#[derive(Clone, Copy, PartialEq, Eq)]
-pub struct At {
-    pub place: usize,
-    pub line: usize,
 }
 
 // A token with its place.

@@ -3,7 +3,7 @@ ghost use mathlib.Core.List.{[]};
 ghost use Rattle.reader.specs.Frames.{held, is-nil, Pushed, Popped};
 use super::Frame;
 use super::Frames;
-use crate::token::At;
+use reading::token::At;
 
 impl Frames {
     pub fn new() -> Frames

@@ -1,7 +1,7 @@
 use Prim.Native.Nat.{_-_, _+_, _≤_}
 use mathlib.Core.Path.{_≡_}
 use lib.ListN.{length, drop}
-use Rattle.reader.specs.Tokens.{front}
+use Rattle.reading.specs.Tokens.{front}
 use Rattle.reader.specs.Lexing.{in-class}
 use Rattle.reader.proofs.lexer.run_len.Given as given
 

@@ -3,7 +3,7 @@ use Prim.Native.Nat.{_+_, _-_}
 use native.Mathlib.Omega.{arith}
 use lib.ListN.{length, drop}
 use Rattle.std.proofs.shelf.Parts.{between-to-end}
-use Rattle.reader.specs.Tokens.{front}
+use Rattle.reading.specs.Tokens.{front}
 use Rattle.reader.specs.Lexing.{in-class}
 use Rattle.reader.proofs.Runs.{run-part-is}
 use Rattle.reader.proofs.lexer.run_part.Needs as need

@@ -1,7 +1,7 @@
 use Prim.Native.Nat.{_≤_}
 use mathlib.Core.Path.{_≡_}
 use lib.ListN.{drop}
-use Rattle.reader.specs.Numbers.{value-after}
+use Rattle.reading.specs.Numbers.{value-after}
 use Rattle.reader.proofs.number.value.Given as given
 
 abbrev pub Inv-loop-d : given.InvT-loop-d

@@ -1,7 +1,7 @@
 use mathlib.Core.Path.{subst, sym}
-use Rattle.reader.specs.Reading.{on-has-mark}
+use Rattle.reading.specs.Reading.{on-has-mark}
 use Rattle.reader.specs.Parsing.{Stepped}
-use Rattle.reader.specs.declared.token.Mark.{Mark}
+use Rattle.reading.specs.declared.token.Mark.{Mark}
 use Rattle.reader.proofs.parser.Parser.follow_mark.Needs as need
 
 pub returns-in-Closing : need.returns-in-Closing

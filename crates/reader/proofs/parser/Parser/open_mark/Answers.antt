@@ -2,7 +2,7 @@ use mathlib.Core.Path.{_≡_, refl, ap, sym, _∙_}
 use native.Mathlib.Omega.{arith}
 use Prim.Native.Nat.{ℕ}
 use lib.ListN.{length}
-use Rattle.reader.specs.Reading.{wants, within, on-opens-mark}
+use Rattle.reading.specs.Reading.{wants, within, on-opens-mark}
 use Rattle.terms.specs.Term.{nil}
 use Rattle.reader.proofs.Parsing.{room-to-open, open-holds}
 use Rattle.reader.proofs.parser.Parser.open_mark.Needs as need

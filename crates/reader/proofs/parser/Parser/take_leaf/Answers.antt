@@ -4,7 +4,7 @@ use lib.ListN.{length}
 use Rattle.std.specs.declared.option.Option.the-variants.{Some, None}
 use Rattle.terms.specs.declared.node.Node.{Node}
 use Rattle.reader.specs.declared.parser.Phase.the-variants.{Has}
-use Rattle.reader.specs.Reading.{has}
+use Rattle.reading.specs.Reading.{has}
 use Rattle.reader.specs.Parsing.{stack-nodes}
 use Rattle.reader.proofs.Stacks.{leaf-laid}
 use Rattle.reader.proofs.parser.Parser.take_leaf.Needs as need

@@ -1,14 +1,14 @@
 use mathlib.Core.Path.{_≡_, refl, sym, ap, _∙_}
-use mathlib.Core.List.{_∷_}
+use mathlib.Core.List.{_∷_, _++_}
 use Prim.Native.Nat.{_≤_, _+_}
 use native.Mathlib.Omega.{arith}
 use borrow.Author.Needs.{needs}
 use lib.ListN.{length, drop, length-drop}
 use Rattle.std.proofs.shelf.Parts.{between-to-end}
-use Rattle.reader.specs.declared.token.At.{At}
-use Rattle.reader.specs.Tokens.{tokens, token-bytes, lines}
+use Rattle.reading.specs.declared.token.At.{At}
+use Rattle.reading.specs.Tokens.{tokens, token-bytes, lines}
 use Rattle.reader.specs.Lexing.{meaning}
-use Rattle.reader.proofs.Tokens.{Steps, tokens-step}
+use Rattle.reading.proofs.Tokens.{Steps, tokens-step}
 use Rattle.reader.proofs.token.Lexer.next_token.Needs as need
 
 pub part-self-count : need.part-self-count
@@ -40,4 +40,9 @@ returns c =
     let rest = between-to-end bs (c .width-width .result) (length bs) (omega arith) ∙ ap (λ n. drop n bs) (c .width-width .ensures) in
     let place : c .at-at .result .place + c .width-width .result ≡ c .args .self .now .place + length (token-bytes k) = omega (arith, ap (λ (a : At). a .place) (c .at-at .ensures)) in
     let line : c .at-at .result .line + c .line-ends .result ≡ c .args .self .now .line + lines k = omega (arith, ap (λ (a : At). a .line) (c .at-at .ensures)) in
-    (s .then-tokens ∙ ap (λ l. k ∷ tokens l) (sym rest), c .at-at .ensures, λ i. record { place = place i; line = line i })
+    record
+    { first = s .then-tokens ∙ ap (λ l. k ∷ tokens l) (sym rest)
+    ; part = s .its-part ∙ ap (λ l. token-bytes k ++ l) (sym rest)
+    ; some-bytes = s .some-bytes
+    ; its-place = c .at-at .ensures
+    ; behind = λ i. record { place = place i; line = line i } }

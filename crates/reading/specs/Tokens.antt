@@ -4,10 +4,12 @@ use mathlib.Core.List.{List, [], _∷_, _++_}
 use Prim.Native.Nat.{ℕ, zero, suc, _+_, _-_}
 use lib.Dec.{leb, eqb}
 use lib.ListN.{length}
+use Rattle.std.specs.declared.option.Option.{Option}
+use Rattle.std.specs.declared.option.Option.the-variants.{Some, None}
 use Rattle.terms.specs.Signature.{lower, digit, word}
-use Rattle.reader.specs.declared.token.At.{At}
-use Rattle.reader.specs.declared.token.Mark.{Mark}
-use Rattle.reader.specs.declared.token.Mark.the-variants.{Opening, Closing, Comma, Equals, Dash, Blank, LineEnd}
+use Rattle.reading.specs.declared.token.At.{At}
+use Rattle.reading.specs.declared.token.Mark.{Mark}
+use Rattle.reading.specs.declared.token.Mark.the-variants.{Opening, Closing, Comma, Equals, Dash, Blank, LineEnd}
 
 -- a token by its bytes; an instrument's begin with '#'; variables are numbered from 0, for 'A'
 pub data Tok : Type 0 where
@@ -42,6 +44,11 @@ first-token b bs =
     cond (lower b) (a-name (b ∷ front word 11 bs))
     (cond (digit b) (a-number (b ∷ front digit (length bs) bs))
     (cond (eqb b 35) (an-instrument (b ∷ front digit (length bs) bs)) (single b)))
+
+-- the first token of a text, if it is not empty
+abbrev pub first-of-text : List ℕ → Option Tok
+first-of-text [] = None
+first-of-text (b ∷ bs) = Some (first-token b bs)
 
 abbrev pub mark-byte : Mark → ℕ
 mark-byte Opening = 40

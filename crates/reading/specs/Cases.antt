@@ -8,11 +8,11 @@ use Rattle.std.specs.declared.result.Result.{Result}
 use Rattle.std.specs.declared.result.Result.the-variants.{Ok, Err}
 use Rattle.terms.specs.Term.{Term, instrument, apply, Terms, nil, cons}
 use Rattle.terms.specs.Signature.{Sig}
-use Rattle.reader.specs.declared.token.At.{At}
-use Rattle.reader.specs.declared.fault.TextFault.{TextFault}
-use Rattle.reader.specs.declared.fault.TextFault.the-variants.{Stray, BadNumber, Unexpected, Undeclared, WrongArity, PastLimit}
-use Rattle.reader.specs.Tokens.{origin}
-use Rattle.reader.specs.Reading.{ticket-limit, read-ticket}
+use Rattle.reading.specs.declared.token.At.{At}
+use Rattle.reading.specs.declared.fault.TextFault.{TextFault}
+use Rattle.reading.specs.declared.fault.TextFault.the-variants.{Stray, BadNumber, Unexpected, Undeclared, WrongArity, PastLimit}
+use Rattle.reading.specs.Tokens.{origin}
+use Rattle.reading.specs.Reading.{ticket-limit, read-ticket}
 
 -- nil, neg and both take 0, 1 and 2 arguments
 abbrev pub sample : Sig

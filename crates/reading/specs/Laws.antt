@@ -15,17 +15,21 @@ use Rattle.terms.specs.Term.{Term, Terms, nil, cons, how-many}
 use Rattle.terms.specs.Signature.{Sig, op-of, digit, found}
 use Rattle.terms.specs.Ticket.{Ticket, Tickets}
 use Rattle.terms.specs.Text.{text-of}
-use Rattle.reader.specs.declared.token.At.{At}
-use Rattle.reader.specs.declared.token.Mark.{Mark}
-use Rattle.reader.specs.declared.token.Mark.the-variants.{Opening, Closing, Comma}
-use Rattle.reader.specs.declared.fault.TextFault.{TextFault}
-use Rattle.reader.specs.declared.fault.TextFault.the-variants.{Stray, BadNumber, Unexpected, Undeclared, WrongArity, PastLimit}
-use Rattle.reader.specs.Tokens.{Tok, a-name, a-number, an-instrument, a-variable, a-mark, a-stray, tokens, whole, origin}
-use Rattle.reader.specs.Numbers.{plain, numbered, instrument-number}
-use Rattle.reader.specs.Reading.{ticket-limit, read-ticket}
+use Rattle.reading.specs.declared.token.At.{At}
+use Rattle.reading.specs.declared.token.Mark.{Mark}
+use Rattle.reading.specs.declared.token.Mark.the-variants.{Opening, Closing, Comma}
+use Rattle.reading.specs.declared.fault.TextFault.{TextFault}
+use Rattle.reading.specs.declared.fault.TextFault.the-variants.{Stray, BadNumber, Unexpected, Undeclared, WrongArity, PastLimit}
+use Rattle.reading.specs.Tokens.{Tok, a-name, a-number, an-instrument, a-variable, a-mark, a-stray, tokens, whole, origin}
+use Rattle.reading.specs.Numbers.{plain, numbered, instrument-number}
+use Rattle.reading.specs.Reading.{ticket-limit, read-ticket}
 
 abbrev pub All-digits : List ℕ → Type 0
 All-digits ds = All (λ d. digit d ≡ true) ds
+
+-- digits are read as the number whose decimal they are, up to a largest one
+abbrev pub Decimal-numbers : Type 0
+Decimal-numbers = (most : ℕ) (ds : List ℕ) (n : ℕ) → most < 2 ^ 64 → All-digits ds → (numbered most ds ≡ Some n → (ds ≡ decimal n) × (n ≤ most)) × ((ds ≡ decimal n) × (n ≤ most) → numbered most ds ≡ Some n)
 
 -- some ticket's text begins with these tokens
 abbrev pub Begins : Sig → List Tok → Type 0
@@ -142,5 +146,3 @@ pub record Ticket-law (sig : Sig) (b : List ℕ) : Type 0 where
   pub explained : Explained sig b (read-ticket sig b)
   -- and every text of a ticket is accepted, but for its length
   pub accepted : (t : Term) → Ticket sig t → text-of sig t ≡ b → length b ≤ ticket-limit → read-ticket sig b ≡ Ok t
-  -- digits are read as the number whose decimal they are
-  pub numbers : (most : ℕ) (ds : List ℕ) (n : ℕ) → most < 2 ^ 64 → All-digits ds → (numbered most ds ≡ Some n → (ds ≡ decimal n) × (n ≤ most)) × ((ds ≡ decimal n) × (n ≤ most) → numbered most ds ≡ Some n)

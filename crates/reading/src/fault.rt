@@ -1,6 +1,5 @@
 use crate::token::At;
 
-pub mod judging;
 use crate::token::AtPartialEq;
 
 // What is wrong with a text, and where.

@@ -1,9 +1,9 @@
 -- The four parts of every fault of a text: number, layer, place, second place.
-use Rattle.reader.specs.declared.token.At.{At}
-use Rattle.reader.specs.declared.fault.TextFault.{TextFault}
-use Rattle.reader.specs.declared.fault.TextFault.the-variants.{Stray, BadNumber, Unexpected, Undeclared, WrongArity, PastLimit}
-use Rattle.reader.specs.declared.refusal.Layer.the-variants.{Text}
-use Rattle.reader.specs.declared.refusal.Refusal.{Refusal}
+use Rattle.reading.specs.declared.token.At.{At}
+use Rattle.reading.specs.declared.fault.TextFault.{TextFault}
+use Rattle.reading.specs.declared.fault.TextFault.the-variants.{Stray, BadNumber, Unexpected, Undeclared, WrongArity, PastLimit}
+use Rattle.reading.specs.declared.refusal.Layer.the-variants.{Text}
+use Rattle.reading.specs.declared.refusal.Refusal.{Refusal}
 use Prim.Native.Nat.{ℕ}
 
 -- the place is the byte's, the second place is the line

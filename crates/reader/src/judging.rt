@@ -1,10 +1,10 @@
 ghost use mathlib.Core.Path.{_≡_};
 ghost use Rattle.reader.specs.Lexing.{meaning};
-ghost use Rattle.reader.specs.Reading.{fault-of};
-use crate::fault::TextFault;
+ghost use Rattle.reading.specs.Reading.{fault-of};
+use reading::fault::TextFault;
 use crate::number::instrument_number;
 use crate::number::is_plain;
-use crate::token::At;
+use reading::token::At;
 use crate::token::Token;
 
 // The fault of a token that is refused with `fault`: what is wrong with the token by itself goes first.

@@ -7,13 +7,12 @@ use native.Mathlib.Omega.{arith}
 use lib.Dec.{leb, eqb}
 use lib.ListN.{length, drop, length-append}
 use Rattle.std.specs.declared.option.Option.the-variants.{Some, None}
-use Rattle.reader.specs.Lexing.{first-of-text}
 use Rattle.std.specs.shelf.Lists.{All}
 use Rattle.std.proofs.shelf.Tests.{cond-both, eqb-true, leb-true, and-parts}
 use Rattle.terms.specs.Signature.{lower, digit, word}
-use Rattle.reader.specs.declared.token.Mark.{Mark}
-use Rattle.reader.specs.declared.token.Mark.the-variants.{Opening, Closing, Comma, Equals, Dash, Blank, LineEnd}
-use Rattle.reader.specs.Tokens.{Tok, a-name, a-number, an-instrument, a-variable, a-mark, a-stray, front, single, first-token, mark-byte, token-bytes, mark-lines, lines, tokens-from, tokens, whole}
+use Rattle.reading.specs.declared.token.Mark.{Mark}
+use Rattle.reading.specs.declared.token.Mark.the-variants.{Opening, Closing, Comma, Equals, Dash, Blank, LineEnd}
+use Rattle.reading.specs.Tokens.{Tok, a-name, a-number, an-instrument, a-variable, a-mark, a-stray, front, single, first-token, first-of-text, mark-byte, token-bytes, mark-lines, lines, tokens-from, tokens, whole}
 
 front-rest : (p : ℕ → Bool) (k : ℕ) (bs : List ℕ) → front p k bs ++ drop (length (front p k bs)) bs ≡ bs
 front-rest p zero bs = refl
@@ -115,6 +114,7 @@ lines-within (a-stray b) = omega arith
 -- the first token of a text and the tokens of what is left behind it
 pub record Steps (bs : List ℕ) (k : Tok) : Type 0 where
   pub then-tokens : tokens bs ≡ k ∷ tokens (drop (length (token-bytes k)) bs)
+  pub its-part : bs ≡ token-bytes k ++ drop (length (token-bytes k)) bs
   pub within : length (token-bytes k) ≤ length bs
   pub some-bytes : 1 ≤ length (token-bytes k)
   pub few-lines : lines k ≤ length (token-bytes k)
@@ -132,4 +132,7 @@ tokens-step (b ∷ bs) k e =
         ap (λ l. first-token b bs ∷ l)
         (tokens-behind (length (token-bytes (first-token b bs)) - 1) bs
         ∙ ap (λ x. tokens (drop x (b ∷ bs))) (let z : suc (length (token-bytes (first-token b bs)) - 1) ≡ length (token-bytes (first-token b bs)) = omega arith in z))
+    ; its-part =
+        ap (λ l. b ∷ l) (sym (part .rest)) ∙ ap (λ l. l ++ drop (length (part .more)) bs) (sym (part .bytes))
+        ∙ ap (λ x. token-bytes (first-token b bs) ++ drop x (b ∷ bs)) (let z : suc (length (part .more)) ≡ length (token-bytes (first-token b bs)) = omega arith in z)
     ; within = omega arith; some-bytes = omega arith; few-lines = lines-within (first-token b bs) })

@@ -10,13 +10,13 @@ use Rattle.std.specs.declared.result.Result.{Result}
 use Rattle.std.specs.declared.result.Result.the-variants.{Ok, Err}
 use Rattle.terms.specs.Term.{Term, variable, instrument, apply, Terms, nil, cons}
 use Rattle.terms.specs.Signature.{Sig, op-of, found}
-use Rattle.reader.specs.declared.token.At.{At}
-use Rattle.reader.specs.declared.token.Mark.{Mark}
-use Rattle.reader.specs.declared.token.Mark.the-variants.{Opening, Closing, Comma, Equals, Dash, Blank, LineEnd}
-use Rattle.reader.specs.declared.fault.TextFault.{TextFault}
-use Rattle.reader.specs.declared.fault.TextFault.the-variants.{Stray, BadNumber, Unexpected, Undeclared, WrongArity, PastLimit}
-use Rattle.reader.specs.Tokens.{Tok, a-name, a-number, an-instrument, a-variable, a-mark, a-stray, tokens, origin, past}
-use Rattle.reader.specs.Numbers.{plain, instrument-number}
+use Rattle.reading.specs.declared.token.At.{At}
+use Rattle.reading.specs.declared.token.Mark.{Mark}
+use Rattle.reading.specs.declared.token.Mark.the-variants.{Opening, Closing, Comma, Equals, Dash, Blank, LineEnd}
+use Rattle.reading.specs.declared.fault.TextFault.{TextFault}
+use Rattle.reading.specs.declared.fault.TextFault.the-variants.{Stray, BadNumber, Unexpected, Undeclared, WrongArity, PastLimit}
+use Rattle.reading.specs.Tokens.{Tok, a-name, a-number, an-instrument, a-variable, a-mark, a-stray, tokens, origin, past}
+use Rattle.reading.specs.Numbers.{plain, instrument-number}
 
 -- the operators whose arguments are being read, the inmost first: its number, its place, the arguments read, and how many follow the one being read
 pub data Stack : Type 0 where

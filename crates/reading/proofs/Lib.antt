@@ -1,0 +1,17 @@
+pub mod Equal
+pub mod Digits
+pub mod Names
+pub mod Tokens
+pub mod Lexing
+pub mod Running
+pub mod Back
+pub mod States
+pub mod Telling
+pub mod Completing
+pub mod Taking
+pub mod Miscounting
+pub mod Choosing
+pub mod Refusing
+pub mod Giving
+pub mod Reading
+pub mod Cases

@@ -1,0 +1,6 @@
+pub mod Refusals
+pub mod Tokens
+pub mod Numbers
+pub mod Reading
+pub mod Laws
+pub mod Cases
