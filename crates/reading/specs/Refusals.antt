@@ -1,19 +1,27 @@
--- The four parts of every fault of a text: number, layer, place, second place.
+-- The four parts of every fault: number, layer, place, second place.
 use Rattle.reading.specs.declared.token.At.{At}
 use Rattle.reading.specs.declared.fault.TextFault.{TextFault}
 use Rattle.reading.specs.declared.fault.TextFault.the-variants.{Stray, BadNumber, Unexpected, Undeclared, WrongArity, PastLimit}
-use Rattle.reading.specs.declared.refusal.Layer.the-variants.{Text}
+use Rattle.reading.specs.declared.fault.SheetFault.{SheetFault}
+use Rattle.reading.specs.declared.fault.SheetFault.the-variants.{Text as In-text, Repeated}
+use Rattle.reading.specs.declared.refusal.Layer.{Layer}
+use Rattle.reading.specs.declared.refusal.Layer.the-variants.{Text, Sheet}
 use Rattle.reading.specs.declared.refusal.Refusal.{Refusal}
 use Prim.Native.Nat.{ℕ}
 
 -- the place is the byte's, the second place is the line
-abbrev pub in-text : ℕ → At → Refusal
-in-text n at = record { number = n; layer = Text; place = at .place; second = at .line }
+abbrev pub placed : ℕ → Layer → At → Refusal
+placed n layer at = record { number = n; layer = layer; place = at .place; second = at .line }
 
 abbrev pub text-refusal : TextFault → Refusal
-text-refusal (Stray at) = in-text 1 at
-text-refusal (BadNumber at) = in-text 2 at
-text-refusal (Unexpected at) = in-text 3 at
-text-refusal (Undeclared at) = in-text 4 at
-text-refusal (WrongArity at) = in-text 5 at
-text-refusal (PastLimit at) = in-text 6 at
+text-refusal (Stray at) = placed 1 Text at
+text-refusal (BadNumber at) = placed 2 Text at
+text-refusal (Unexpected at) = placed 3 Text at
+text-refusal (Undeclared at) = placed 4 Text at
+text-refusal (WrongArity at) = placed 5 Text at
+text-refusal (PastLimit at) = placed 6 Text at
+
+-- a fault of the text is passed on unaltered
+abbrev pub sheet-refusal : SheetFault → Refusal
+sheet-refusal (In-text f) = text-refusal f
+sheet-refusal (Repeated at) = placed 7 Sheet at

@@ -1,3 +1,5 @@
+ghost use mathlib.Core.Path.{_≡_};
+ghost use Rattle.reading.specs.declared.fault.SheetFault.the-variants.{Text};
 use crate::token::At;
 
 use crate::token::AtPartialEq;
@@ -17,4 +19,20 @@ pub enum TextFault {
     WrongArity(At),
     // a limit passed
     PastLimit(At),
+}
+
+// What is wrong with a sheet: with its text, or with what the text says.
+#[derive(Clone, Copy, PartialEq, Eq)]
+pub enum SheetFault {
+    Text(TextFault),
+    // a name that stands twice in the line of names
+    Repeated(At),
+}
+
+pub impl From<TextFault> for SheetFault as SheetFaultFromText {
+    ghost converts = { λ f r. r ≡ Text f };
+
+    fn from(fault: TextFault) -> SheetFault {
+        SheetFault::Text(fault)
+    }
 }
