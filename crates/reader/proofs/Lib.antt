@@ -1,6 +1,5 @@
 pub mod Runs
 pub mod Values
-pub mod Piles
 pub mod Stacks
 pub mod Parsing
 pub mod Sparse

@@ -5,8 +5,6 @@ use mathlib.Core.List.{List, [], _∷_, _++_}
 use Prim.Native.Nat.{ℕ, zero, suc, _+_, _*_, _≤_, _<_}
 use native.Mathlib.Omega.{arith}
 use lib.ListN.{length, length-append}
-use lib.Dec.{eqb}
-use Rattle.std.proofs.shelf.Tests.{ne-eqb}
 use Rattle.std.specs.declared.option.Option.{Option}
 use Rattle.std.specs.declared.option.Option.the-variants.{Some, None}
 use Rattle.std.specs.declared.result.Result.{Result}
@@ -18,13 +16,13 @@ use Rattle.terms.specs.Nodes.{laid, with-next}
 use Rattle.terms.specs.Layout.{in-use, Lays-out}
 use Rattle.reading.specs.declared.token.At.{At}
 use Rattle.reading.specs.declared.fault.TextFault.{TextFault}
-use Rattle.reader.specs.declared.frames.Frame.{Frame}
-use Rattle.reader.specs.declared.frames.Frames.{Frames}
+use Rattle.reader.specs.declared.parser.Frame.{Frame}
+use Rattle.stack.specs.declared.Stack.{Stack as Pile}
 use Rattle.reader.specs.declared.parser.Phase.{Phase}
 use Rattle.reader.specs.declared.parser.Phase.the-variants.{Wants, Opens, Has}
 use Rattle.reader.specs.declared.parser.Parser.{Parser}
-use Rattle.reader.specs.Frames.{held, is-nil, piled}
-use Rattle.reading.specs.Reading.{Stack, top, within, State, wants, opens, has, and-then, closed, continued, ending}
+use Rattle.stack.specs.Stack.{content, is-nil}
+use Rattle.reading.specs.Reading.{Context, top, within, State, wants, opens, has, and-then, closed, continued, ending}
 use Rattle.reader.specs.Parsing.{operator-node, linked, stack-nodes, stack-frames, state-nodes, Holds, Sparse, Roomy}
 use Rattle.reader.proofs.Stacks.{closed-nodes, continued-nodes, fewer-frames}
 
@@ -37,12 +35,8 @@ same-top e = cc
 same-rest : {x y : Frame} {xs ys : List Frame} → x ∷ xs ≡ y ∷ ys → xs ≡ ys
 same-rest e = cc
 
-pub empty-held : (xs : List Frame) (n : ℕ) → eqb n 0 ≡ is-nil (piled xs n)
-empty-held xs zero = refl
-empty-held xs (suc n) = ne-eqb (suc n) 0 (λ e. omega arith)
-
 -- ')' behind a term
-pub close-holds : (p : Parser) (rest : Frames) (frame : Frame) (at : At) (t : Term) (m : Option At) (k : Stack) → Holds p (has t m k) → held (p .frames) ≡ frame ∷ held rest → frame .left ≤ 0
+pub close-holds : (p : Parser) (rest : Pile Frame 2048) (frame : Frame) (at : At) (t : Term) (m : Option At) (k : Context) → Holds p (has t m k) → content (p .frames) ≡ frame ∷ content rest → frame .left ≤ 0
     → (s : State) × (closed t k at ≡ Ok s) × Holds (record { nodes = p .nodes; frames = rest; phase = Has (frame .node) None }) s
 close-holds p rest frame at t m top h e l = absurd (never-nil (sym (h .frames-are) ∙ e))
 close-holds p rest frame at t m (within f a ts zero k) h e l =
@@ -54,10 +48,10 @@ close-holds p rest frame at t m (within f a ts zero k) h e l =
 close-holds p rest frame at t m (within f a ts (suc n) k) h e l = absurd (omega (arith, ap (λ (x : Frame). x .left) (same-top (sym e ∙ h .frames-are))))
 
 -- there is room for one more frame
-pub room-to-open : (f : ℕ) (a : At) (n : ℕ) (k : Stack) (place : ℕ) → Roomy (opens f a n k) place → length (stack-frames k) < 2048
+pub room-to-open : (f : ℕ) (a : At) (n : ℕ) (k : Context) (place : ℕ) → Roomy (opens f a n k) place → length (stack-frames k) < 2048
 room-to-open f a n k place r = omega (arith, r .0, r .1, fewer-frames k, length-append (stack-nodes k) (operator-node f (length (stack-nodes k)) ∷ []))
 
-pub open-holds : (p : Parser) (more : Frames) (frame : Frame) (f : ℕ) (k : Stack) → Holds p (opens f (frame .at) (frame .left) k) → frame .node ≡ length (stack-nodes k) → held more ≡ frame ∷ held (p .frames)
+pub open-holds : (p : Parser) (more : Pile Frame 2048) (frame : Frame) (f : ℕ) (k : Context) → Holds p (opens f (frame .at) (frame .left) k) → frame .node ≡ length (stack-nodes k) → content more ≡ frame ∷ content (p .frames)
     → Holds (record { nodes = p .nodes; frames = more; phase = Wants }) (wants (within f (frame .at) nil (frame .left) k))
 open-holds p more frame f k h e q = record
     { nodes-are = h .nodes-are
@@ -65,12 +59,12 @@ open-holds p more frame f k h e q = record
     ; phase-is = refl }
 
 -- ',' behind a term
-pub room-to-continue : (t : Term) (m : Option At) (k : Stack) (place : ℕ) → Roomy (has t m k) place → length (stack-frames k) ≤ 2048
+pub room-to-continue : (t : Term) (m : Option At) (k : Context) (place : ℕ) → Roomy (has t m k) place → length (stack-frames k) ≤ 2048
 room-to-continue t m k place r = omega (arith, r .0, r .1, fewer-frames k, length-append (stack-nodes k) (laid (length (stack-nodes k)) None t))
 
-pub continue-holds : (p : Parser) (linkd : Layout 2048) (rest more : Frames) (frame : Frame) (at : At) (root left next : ℕ) (t : Term) (m : Option At) (k : Stack)
-    → Holds p (has t m k) → root ≡ length (stack-nodes k) → held (p .frames) ≡ frame ∷ held rest → suc left ≡ frame .left → next ≡ length (in-use (p .nodes)) → in-use linkd ≡ with-next (in-use (p .nodes)) root next
-    → held more ≡ record { node = frame .node; at = frame .at; left = left } ∷ held rest
+pub continue-holds : (p : Parser) (linkd : Layout 2048) (rest more : Pile Frame 2048) (frame : Frame) (at : At) (root left next : ℕ) (t : Term) (m : Option At) (k : Context)
+    → Holds p (has t m k) → root ≡ length (stack-nodes k) → content (p .frames) ≡ frame ∷ content rest → suc left ≡ frame .left → next ≡ length (in-use (p .nodes)) → in-use linkd ≡ with-next (in-use (p .nodes)) root next
+    → content more ≡ record { node = frame .node; at = frame .at; left = left } ∷ content rest
     → (s : State) × (continued t k at ≡ Ok s) × Holds (record { nodes = linkd; frames = more; phase = Wants }) s
 continue-holds p linkd rest more frame at root left next t m top h e q l n b u = absurd (never-nil (sym (h .frames-are) ∙ q))
 continue-holds p linkd rest more frame at root left next t m (within f a ts zero k) h e q l n b u = absurd (omega (arith, ap (λ (x : Frame). x .left) (same-top (sym q ∙ h .frames-are))))
@@ -92,7 +86,7 @@ no-opening e = let z : _≡_ {A = ℕ} 0 1 = cc in omega arith
 no-empty : {x : Frame} {xs ys : List Frame} → true ≡ is-nil ys → ys ≡ x ∷ xs → ⊥
 no-empty e q = let h : true ≡ false = e ∙ ap is-nil q in let z : _≡_ {A = ℕ} 0 1 = cc in omega arith
 
-pub finish-holds : (p : Parser) (i : ℕ) (b : Option At) (at : At) (s : State) → Holds p s → p .phase ≡ Has i b → true ≡ is-nil (held (p .frames)) → (t : Term) × (ending s at ≡ Ok t) × Lays-out (p .nodes) t
+pub finish-holds : (p : Parser) (i : ℕ) (b : Option At) (at : At) (s : State) → Holds p s → p .phase ≡ Has i b → true ≡ is-nil (content (p .frames)) → (t : Term) × (ending s at ≡ Ok t) × Lays-out (p .nodes) t
 finish-holds p i b at (wants k) h e q = absurd (no-phase (sym e ∙ h .phase-is))
 finish-holds p i b at (opens f a n k) h e q = absurd (no-opening (sym e ∙ h .phase-is))
 finish-holds p i b at (has t m top) h e q = (t, refl, h .nodes-are)

@@ -12,7 +12,7 @@ use Rattle.terms.specs.declared.node.Node.{Node}
 use Rattle.terms.specs.Term.{Term, variable, instrument, apply, Terms, nil, cons, symbols, symbols-in}
 use Rattle.terms.specs.Nodes.{vacant, start, laid, laid-row, with-next}
 use Rattle.terms.proofs.Laying.{length-laid}
-use Rattle.reading.specs.Reading.{Stack, top, within, State, wants, opens, has, and-then}
+use Rattle.reading.specs.Reading.{Context, top, within, State, wants, opens, has, and-then}
 use Rattle.reader.specs.Parsing.{operator-node, linked, stack-nodes, stack-frames, state-nodes, Leaf}
 
 start-then : (i : ℕ) (ts : Terms) (t : Term) → start i (and-then ts t) ≡ Some i
@@ -78,7 +78,7 @@ continued-nodes t f ns ts q e =
     ∙ ap (λ l. ns ++ (operator-node f i ∷ l)) (sym (linked-push (suc i) ts t j (deeper f i ns ts refl)))
 
 -- each frame has its node
-pub fewer-frames : (k : Stack) → length (stack-frames k) ≤ length (stack-nodes k)
+pub fewer-frames : (k : Context) → length (stack-frames k) ≤ length (stack-nodes k)
 fewer-frames top = omega arith
 fewer-frames (within f a ts n k) =
     let ih = fewer-frames k in

@@ -1,4 +1,3 @@
 pub mod Lexing
-pub mod Frames
 pub mod Parsing
 pub mod Ticket

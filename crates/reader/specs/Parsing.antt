@@ -16,12 +16,12 @@ use Rattle.terms.specs.Nodes.{laid}
 use Rattle.terms.specs.Layout.{in-use, Lays-out}
 use Rattle.reading.specs.declared.token.At.{At}
 use Rattle.reading.specs.declared.fault.TextFault.{TextFault}
-use Rattle.reader.specs.declared.frames.Frame.{Frame}
+use Rattle.reader.specs.declared.parser.Frame.{Frame}
 use Rattle.reader.specs.declared.parser.Phase.{Phase}
 use Rattle.reader.specs.declared.parser.Phase.the-variants.{Wants, Opens, Has}
 use Rattle.reader.specs.declared.parser.Parser.{Parser}
-use Rattle.reader.specs.Frames.{held}
-use Rattle.reading.specs.Reading.{Stack, top, within, State, wants, opens, has}
+use Rattle.stack.specs.Stack.{content}
+use Rattle.reading.specs.Reading.{Context, top, within, State, wants, opens, has}
 
 -- an operator whose arguments begin at the next place
 abbrev pub operator-node : ℕ → ℕ → Node
@@ -33,11 +33,11 @@ linked i nil = []
 linked i (cons t ts) = laid i (Some (i + symbols t)) t ++ linked (i + symbols t) ts
 
 -- the nodes of the operators whose arguments are being read, and of the arguments read
-abbrev pub stack-nodes : Stack → List Node
+abbrev pub stack-nodes : Context → List Node
 stack-nodes top = []
 stack-nodes (within f a ts n k) = stack-nodes k ++ (operator-node f (length (stack-nodes k)) ∷ linked (suc (length (stack-nodes k))) ts)
 
-abbrev pub stack-frames : Stack → List Frame
+abbrev pub stack-frames : Context → List Frame
 stack-frames top = []
 stack-frames (within f a ts n k) = record { node = length (stack-nodes k); at = a; left = n } ∷ stack-frames k
 
@@ -59,7 +59,7 @@ state-phase (has t m k) = Has (length (stack-nodes k)) m
 -- the parser holds what the state says
 pub record Holds (p : Parser) (s : State) : Type 0 where
   pub nodes-are : in-use (p .nodes) ≡ state-nodes s
-  pub frames-are : held (p .frames) ≡ state-frames s
+  pub frames-are : content (p .frames) ≡ state-frames s
   pub phase-is : p .phase ≡ state-phase s
 
 -- twice the nodes, less one where a term has begun, are no more than the bytes read

@@ -3,6 +3,5 @@ pub mod token;
 pub mod lexer;
 pub mod number;
 pub mod judging;
-pub mod frames;
 pub mod parser;
 pub mod ticket;

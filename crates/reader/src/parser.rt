@@ -1,12 +1,19 @@
-use crate::frames::Frame;
-use crate::frames::Frames;
 use reading::token::At;
+use stack::Stack;
 use terms::layout::Layout;
 
 pub mod parsing;
 
 // How many nodes a ticket's text can ask for: each symbol takes two bytes or more, but for the last.
 pub const TICKET_NODES: usize = 2048;
+
+// An operator whose arguments are being read: its node, where its name stands, and how many arguments follow the one being read.
+#[derive(Clone, Copy)]
+pub struct Frame {
+    pub node: u16,
+    pub at: At,
+    pub left: u8,
+}
 
 // What may come: a term; an opening parenthesis behind an operator; or what follows a term, with the place of an operator without arguments that stands just before.
 #[derive(Clone, Copy)]
@@ -17,9 +24,9 @@ pub enum Phase {
 }
 
 // What is read so far: the nodes in reading order, the operators whose arguments are being read, and what may come.
-#[derive(Clone, Copy)]
+#[derive(Drop)]
 pub struct Parser {
     nodes: Layout<2048>,
-    frames: Frames,
+    frames: Stack<Frame, 2048>,
     phase: Phase,
 }

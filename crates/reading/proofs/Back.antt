@@ -16,7 +16,7 @@ use Rattle.reading.specs.declared.token.At.{At}
 use Rattle.reading.specs.declared.token.Mark.the-variants.{Opening, Closing, Comma}
 use Rattle.reading.specs.declared.fault.TextFault.{TextFault}
 use Rattle.reading.specs.Tokens.{Tok, a-name, a-mark, tokens, past}
-use Rattle.reading.specs.Reading.{Stack, within, State, wants, opens, has, and-then, named, with-name, with-number, chain}
+use Rattle.reading.specs.Reading.{Context, within, State, wants, opens, has, and-then, named, with-name, with-number, chain}
 use Rattle.reading.specs.Laws.{further-arguments, arguments-so-far}
 use Rattle.reading.proofs.Digits.{numbered-decimal}
 use Rattle.reading.proofs.Names.{found-name}
@@ -40,19 +40,19 @@ then-join us u = sym (join-nil (and-then us u)) ∙ join-then us u nil
 
 -- some tokens are read as the term, whatever it stands in
 abbrev Reads : Sig → List Tok → Term → Type 0
-Reads sig ks t = (k : Stack) (at : At) → (m : Option At) × (reach sig (wants k) at ks ≡ Ok (has t m k))
+Reads sig ks t = (k : Context) (at : At) → (m : Option At) × (reach sig (wants k) at ks ≡ Ok (has t m k))
 
 -- a run comes to the last of these arguments of f, with n to follow
-abbrev pub Leads : Result State TextFault → ℕ → At → ℕ → Stack → Terms → Type 0
+abbrev pub Leads : Result State TextFault → ℕ → At → ℕ → Context → Terms → Type 0
 Leads r f a n k ts = (us : Terms) × (u : Term) × (m : Option At) × (and-then us u ≡ ts) × (r ≡ Ok (has u m (within f a us n k)))
 
 -- further arguments are read on
 abbrev Further : Sig → Terms → Type 0
-Further sig ts = (us : Terms) (u : Term) (m : Option At) (f : ℕ) (a : At) (n j : ℕ) (k : Stack) (at : At) → n ≡ how-many ts + j
+Further sig ts = (us : Terms) (u : Term) (m : Option At) (f : ℕ) (a : At) (n j : ℕ) (k : Context) (at : At) → n ≡ how-many ts + j
     → Leads (reach sig (has u m (within f a us n k)) at (further-arguments sig ts)) f a j k (join us (cons u ts))
 
 -- an argument and further ones
-leads-row : (sig : Sig) (t : Term) (ts : Terms) → Reads sig (tokens (text-of sig t)) t → Further sig ts → (us : Terms) (f : ℕ) (a : At) (n j : ℕ) (k : Stack) (at : At) → n ≡ how-many ts + j
+leads-row : (sig : Sig) (t : Term) (ts : Terms) → Reads sig (tokens (text-of sig t)) t → Further sig ts → (us : Terms) (f : ℕ) (a : At) (n j : ℕ) (k : Context) (at : At) → n ≡ how-many ts + j
     → Leads (reach sig (wants (within f a us n k)) at (tokens (text-of sig t) ++ further-arguments sig ts)) f a j k (join us (cons t ts))
 leads-row sig t ts h g us f a n j k at e =
     let (m, p) = h (within f a us n k) at in
@@ -60,13 +60,13 @@ leads-row sig t ts h g us f a n j k at e =
     (vs, v, l, q, reach-join sig (wants (within f a us n k)) at (tokens (text-of sig t)) (further-arguments sig ts) (has t m (within f a us n k)) (has v l (within f a vs j k)) p r)
 
 -- behind all arguments, the closing parenthesis
-closes : (sig : Sig) (s : State) (at : At) (ks : List Tok) (f : ℕ) (a : At) (k : Stack) (ts : Terms) → Leads (reach sig s at ks) f a 0 k ts → (m : Option At) × (reach sig s at (ks ++ (a-mark Closing ∷ [])) ≡ Ok (has (apply f ts) m k))
+closes : (sig : Sig) (s : State) (at : At) (ks : List Tok) (f : ℕ) (a : At) (k : Context) (ts : Terms) → Leads (reach sig s at ks) f a 0 k ts → (m : Option At) × (reach sig s at (ks ++ (a-mark Closing ∷ [])) ≡ Ok (has (apply f ts) m k))
 closes sig s at ks f a k ts h =
     let (us, u, m, e, q) = h in
     (None, reach-join sig s at ks (a-mark Closing ∷ []) (has u m (within f a us 0 k)) (has (apply f ts) None k) q (ap (λ l. Ok (has (apply f l) None k)) e))
 
 module _ {sig : Sig} (good : Declared sig) where
-  pub name-step : (f : ℕ) → f < length sig → (k : Stack) (at : At) → with-name sig (found sig (op-of sig f .name)) at k ≡ Ok (named f (op-of sig f .arity) at k)
+  pub name-step : (f : ℕ) → f < length sig → (k : Context) (at : At) → with-name sig (found sig (op-of sig f .name)) at k ≡ Ok (named f (op-of sig f .arity) at k)
   name-step f h k at = ap (λ o. with-name sig o at k) (found-name good f h)
 
   mutual
@@ -84,7 +84,7 @@ module _ {sig : Sig} (good : Declared sig) where
               ∙ ap (λ n. reach sig (named f n at k) (past at w) ks) (sym (h .1)) ∙ e,
         )
 
-    reads-arguments : (ts : Terms) → Tickets sig ts → (f : ℕ) (a : At) (k : Stack) (at : At) → (m : Option At) × (reach sig (named f (how-many ts) a k) at (arguments-so-far sig ts ++ closing ts) ≡ Ok (has (apply f ts) m k))
+    reads-arguments : (ts : Terms) → Tickets sig ts → (f : ℕ) (a : At) (k : Context) (at : At) → (m : Option At) × (reach sig (named f (how-many ts) a k) at (arguments-so-far sig ts ++ closing ts) ≡ Ok (has (apply f ts) m k))
     reads-arguments nil h f a k at = (Some a, refl)
     reads-arguments (cons t ts) h f a k at =
         closes sig (wants (within f a nil (how-many ts) k)) (past at (a-mark Opening)) (tokens (text-of sig t) ++ further-arguments sig ts) f a k (cons t ts)
@@ -98,5 +98,5 @@ module _ {sig : Sig} (good : Declared sig) where
         (vs, v, l, q ∙ join-then us u (cons t ts), r)
 
   -- an operator's first arguments, with j to follow
-  pub leads-arguments : (t : Term) (ts : Terms) → Tickets sig (cons t ts) → (f : ℕ) (a : At) (n j : ℕ) (k : Stack) (at : At) → n ≡ how-many ts + j → Leads (reach sig (opens f a n k) at (arguments-so-far sig (cons t ts))) f a j k (cons t ts)
+  pub leads-arguments : (t : Term) (ts : Terms) → Tickets sig (cons t ts) → (f : ℕ) (a : At) (n j : ℕ) (k : Context) (at : At) → n ≡ how-many ts + j → Leads (reach sig (opens f a n k) at (arguments-so-far sig (cons t ts))) f a j k (cons t ts)
   leads-arguments t ts h f a n j k at e = leads-row sig t ts (reads t (h .0)) (reads-further ts (h .1)) nil f a n j k (past at (a-mark Opening)) e

@@ -12,7 +12,7 @@ use Rattle.terms.specs.Text.{text-of}
 use Rattle.reading.specs.declared.token.At.{At}
 use Rattle.reading.specs.declared.token.Mark.the-variants.{Opening, Closing, Comma}
 use Rattle.reading.specs.Tokens.{Tok, an-instrument, a-mark, tokens, whole}
-use Rattle.reading.specs.Reading.{Stack, top, within, State, wants, opens, has, and-then, step}
+use Rattle.reading.specs.Reading.{Context, top, within, State, wants, opens, has, and-then, step}
 use Rattle.reading.specs.Laws.{Begins}
 use Rattle.reading.proofs.Tokens.{Lexed}
 use Rattle.reading.proofs.States.{state-tokens, Good}
@@ -37,7 +37,7 @@ module _ {sig : Sig} (good : Declared sig) where
   back s k u h b = begins-front (state-tokens sig u) (state-tokens sig s) (k ∷ []) (h .1) b
 
   -- the arguments that are left are filled with #1
-  fill : (n f : ℕ) (a : At) (ts : Terms) (t : Term) (m : Option At) (k : Stack) → Good sig (has t m (within f a ts n k))
+  fill : (n f : ℕ) (a : At) (ts : Terms) (t : Term) (m : Option At) (k : Context) → Good sig (has t m (within f a ts n k))
       → ((u : Term) (j : Option At) → Good sig (has u j k) → Begins sig (state-tokens sig (has u j k))) → Begins sig (state-tokens sig (has t m (within f a ts n k)))
   fill zero f a ts t m k g rest =
       let u : Term = apply f (and-then ts t) in
@@ -45,16 +45,16 @@ module _ {sig : Sig} (good : Declared sig) where
       back (has t m (within f a ts zero k)) (a-mark Closing) (has u None k) h (rest u None (h .0))
   fill (suc n) f a ts t m k g rest =
       let s : State = has t m (within f a ts (suc n) k) in
-      let w : Stack = within f a (and-then ts t) n k in
+      let w : Context = within f a (and-then ts t) n k in
       let h = next s (a-mark Comma) (wants w) tt g refl in
       let j = next (wants w) one (has (instrument 1) None w) (refl, tt) (h .0) refl in
       back s (a-mark Comma) (wants w) h (back (wants w) one (has (instrument 1) None w) j (fill n f a (and-then ts t) (instrument 1) None k (j .0) rest))
 
-  begins-has : (k : Stack) (t : Term) (m : Option At) → Good sig (has t m k) → Begins sig (state-tokens sig (has t m k))
+  begins-has : (k : Context) (t : Term) (m : Option At) → Good sig (has t m k) → Begins sig (state-tokens sig (has t m k))
   begins-has top t m g = (t, g .0, ([], sym (append-nil (tokens (text-of sig t)))))
   begins-has (within f a ts n k) t m g = fill n f a ts t m k g (λ u j h. begins-has k u j h)
 
-  begins-wants : (k : Stack) → Good sig (wants k) → Begins sig (state-tokens sig (wants k))
+  begins-wants : (k : Context) → Good sig (wants k) → Begins sig (state-tokens sig (wants k))
   begins-wants k g =
       let h = next (wants k) one (has (instrument 1) None k) (refl, tt) g refl in
       back (wants k) one (has (instrument 1) None k) h (begins-has k (instrument 1) None (h .0))
@@ -67,7 +67,7 @@ module _ {sig : Sig} (good : Declared sig) where
   begins (has t m k) g = begins-has k t m g
 
   -- where a term may begin, one does
-  pub begins-one : (k : Stack) → Good sig (wants k) → Begins sig (state-tokens sig (wants k) ++ (one ∷ []))
+  pub begins-one : (k : Context) → Good sig (wants k) → Begins sig (state-tokens sig (wants k) ++ (one ∷ []))
   begins-one k g =
       let h = next (wants k) one (has (instrument 1) None k) (refl, tt) g refl in
       subst (Begins sig) (h .1) (begins-has k (instrument 1) None (h .0))

@@ -17,7 +17,7 @@ use Rattle.reading.specs.declared.fault.TextFault.{TextFault}
 use Rattle.reading.specs.declared.fault.TextFault.the-variants.{Unexpected, Undeclared, WrongArity}
 use Rattle.reading.specs.Tokens.{Tok, a-name, a-number, an-instrument, a-variable, a-mark, a-stray, origin}
 use Rattle.reading.specs.Numbers.{instrument-number}
-use Rattle.reading.specs.Reading.{Stack, top, within, State, wants, opens, has, fault-of, with-name, with-number, closed, continued, needless, on-opens-mark, on-has-mark, step, ending}
+use Rattle.reading.specs.Reading.{Context, top, within, State, wants, opens, has, fault-of, with-name, with-number, closed, continued, needless, on-opens-mark, on-has-mark, step, ending}
 use Rattle.reading.specs.Laws.{Wrong, kind, Miscounted, Behind}
 use Rattle.reading.proofs.Running.{reach, Refuses}
 use Rattle.reading.proofs.States.{state-tokens, Good}
@@ -71,25 +71,25 @@ module _ {sig : Sig} (good : Declared sig) where
 
   -- where a term may begin
 
-  gives-name : (k : Stack) (at : At) (s : List ℕ) (o : Option ℕ) → found sig s ≡ o → There sig (wants k) at → Gives sig (wants k) (Some (a-name s)) (with-name sig o at k)
+  gives-name : (k : Context) (at : At) (s : List ℕ) (o : Option ℕ) → found sig s ≡ o → There sig (wants k) at → Gives sig (wants k) (Some (a-name s)) (with-name sig o at k)
   gives-name k at s None e h =
       let ks : List Tok = state-tokens sig (wants k) in
       own-first ks at (h .place) (Undeclared at) (a-name s) (late-undeclared good ks (wants k) (h .reached) s at (h .place) (_, refl, begins-one good k (h .is-good)) e refl)
   gives-name k at s (Some f) e h = tt
 
-  gives-instrument : (k : Stack) (at : At) (s : List ℕ) (o : Option ℕ) → instrument-number s ≡ o → There sig (wants k) at → Gives sig (wants k) (Some (an-instrument s)) (with-number o at k)
+  gives-instrument : (k : Context) (at : At) (s : List ℕ) (o : Option ℕ) → instrument-number s ≡ o → There sig (wants k) at → Gives sig (wants k) (Some (an-instrument s)) (with-number o at k)
   gives-instrument k at s None e h = bad-instrument (state-tokens sig (wants k)) at (h .place) (Unexpected at) s e
   gives-instrument k at s (Some n) e h = tt
 
   -- behind an operator that takes arguments
 
-  count-opens : (f : ℕ) (a : At) (n : ℕ) (k : Stack) (at : At) (w : Wrong) → There sig (opens f a n k) at → opening w ≡ 0 → Miscounted sig (state-tokens sig (opens f a n k)) w a
+  count-opens : (f : ℕ) (a : At) (n : ℕ) (k : Context) (at : At) (w : Wrong) → There sig (opens f a n k) at → opening w ≡ 0 → Miscounted sig (state-tokens sig (opens f a n k)) w a
   count-opens f a n k at w h z = miscounted-opens good f a n k w (h .is-good .0) (λ e. omega (arith, ap opening e))
 
-  gives-opens : (f : ℕ) (a : At) (n : ℕ) (k : Stack) (at : At) (j : Tok) → There sig (opens f a n k) at → opening (Some j) ≡ 0 → Chosen sig (state-tokens sig (opens f a n k)) (Some j) (fault-of j at (WrongArity a))
+  gives-opens : (f : ℕ) (a : At) (n : ℕ) (k : Context) (at : At) (j : Tok) → There sig (opens f a n k) at → opening (Some j) ≡ 0 → Chosen sig (state-tokens sig (opens f a n k)) (Some j) (fault-of j at (WrongArity a))
   gives-opens f a n k at j h z = miscounted (opens f a n k) at a j h (count-opens f a n k at (Some j) h z)
 
-  mark-opens : (j : Mark) (f : ℕ) (a : At) (n : ℕ) (k : Stack) (at : At) → There sig (opens f a n k) at → Gives sig (opens f a n k) (Some (a-mark j)) (on-opens-mark j f a n k)
+  mark-opens : (j : Mark) (f : ℕ) (a : At) (n : ℕ) (k : Context) (at : At) → There sig (opens f a n k) at → Gives sig (opens f a n k) (Some (a-mark j)) (on-opens-mark j f a n k)
   mark-opens Opening f a n k at h = tt
   mark-opens Closing f a n k at h = gives-opens f a n k at (a-mark Closing) h refl
   mark-opens Comma f a n k at h = gives-opens f a n k at (a-mark Comma) h refl
@@ -100,21 +100,21 @@ module _ {sig : Sig} (good : Declared sig) where
 
   -- behind a term
 
-  gives-opening : (t : Term) (m : Option At) (k : Stack) (at : At) → There sig (has t m k) at → Chosen sig (state-tokens sig (has t m k)) (Some (a-mark Opening)) (needless m at)
+  gives-opening : (t : Term) (m : Option At) (k : Context) (at : At) → There sig (has t m k) at → Chosen sig (state-tokens sig (has t m k)) (Some (a-mark Opening)) (needless m at)
   gives-opening t None k at h = unexpected (has t None k) at (a-mark Opening) h refl refl
   gives-opening t (Some a) k at h = miscounted (has t (Some a) k) at a (a-mark Opening) h (miscounted-opening good t a k (h .is-good))
 
-  gives-closed : (t : Term) (m : Option At) (k : Stack) (at : At) → There sig (has t m k) at → Gives sig (has t m k) (Some (a-mark Closing)) (closed t k at)
+  gives-closed : (t : Term) (m : Option At) (k : Context) (at : At) → There sig (has t m k) at → Gives sig (has t m k) (Some (a-mark Closing)) (closed t k at)
   gives-closed t m top at h = unexpected (has t m top) at (a-mark Closing) h refl refl
   gives-closed t m (within f a ts zero k) at h = tt
   gives-closed t m (within f a ts (suc n) k) at h = miscounted (has t m (within f a ts (suc n) k)) at a (a-mark Closing) h (miscounted-closing good t m f a ts n k (h .is-good))
 
-  gives-continued : (t : Term) (m : Option At) (k : Stack) (at : At) → There sig (has t m k) at → Gives sig (has t m k) (Some (a-mark Comma)) (continued t k at)
+  gives-continued : (t : Term) (m : Option At) (k : Context) (at : At) → There sig (has t m k) at → Gives sig (has t m k) (Some (a-mark Comma)) (continued t k at)
   gives-continued t m top at h = unexpected (has t m top) at (a-mark Comma) h refl refl
   gives-continued t m (within f a ts zero k) at h = miscounted (has t m (within f a ts zero k)) at a (a-mark Comma) h (miscounted-comma good t m f a ts k (h .is-good))
   gives-continued t m (within f a ts (suc n) k) at h = tt
 
-  mark-has : (j : Mark) (t : Term) (m : Option At) (k : Stack) (at : At) → There sig (has t m k) at → Gives sig (has t m k) (Some (a-mark j)) (on-has-mark j at t m k)
+  mark-has : (j : Mark) (t : Term) (m : Option At) (k : Context) (at : At) → There sig (has t m k) at → Gives sig (has t m k) (Some (a-mark j)) (on-has-mark j at t m k)
   mark-has Opening t m k at h = gives-opening t m k at h
   mark-has Closing t m k at h = gives-closed t m k at h
   mark-has Comma t m k at h = gives-continued t m k at h

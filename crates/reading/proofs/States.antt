@@ -13,7 +13,7 @@ use Rattle.terms.specs.Text.{text-of}
 use Rattle.reading.specs.declared.token.At.{At}
 use Rattle.reading.specs.declared.token.Mark.the-variants.{Opening, Closing, Comma}
 use Rattle.reading.specs.Tokens.{Tok, a-name, a-mark, tokens}
-use Rattle.reading.specs.Reading.{Stack, top, within, State, wants, opens, has, and-then}
+use Rattle.reading.specs.Reading.{Context, top, within, State, wants, opens, has, and-then}
 use Rattle.reading.specs.Laws.{Behind, further-arguments, arguments-so-far}
 use Rattle.reading.proofs.Lexing.{closing}
 
@@ -27,7 +27,7 @@ abbrev pub awaiting : Sig → Terms → List Tok
 awaiting sig nil = a-mark Opening ∷ []
 awaiting sig (cons t ts) = arguments-so-far sig (cons t ts) ++ (a-mark Comma ∷ [])
 
-abbrev pub stack-tokens : Sig → Stack → List Tok
+abbrev pub stack-tokens : Sig → Context → List Tok
 stack-tokens sig top = []
 stack-tokens sig (within f a ts n k) = stack-tokens sig k ++ (name-of sig f ∷ awaiting sig ts)
 
@@ -71,9 +71,9 @@ pub record Frame (sig : Sig) (f : ℕ) (a : At) (ts : Terms) (n : ℕ) (ks : Lis
   pub tickets : Tickets sig ts
   pub placed : Behind ks a
 
-abbrev pub Stack-good : Sig → Stack → Type 0
-Stack-good sig top = Unit {0}
-Stack-good sig (within f a ts n k) = Frame sig f a ts n (stack-tokens sig k) × Stack-good sig k
+abbrev pub Context-good : Sig → Context → Type 0
+Context-good sig top = Unit {0}
+Context-good sig (within f a ts n k) = Frame sig f a ts n (stack-tokens sig k) × Context-good sig k
 
 -- the place of an operator without arguments
 abbrev pub Placed : List Tok → Term → Option At → Type 0
@@ -81,9 +81,9 @@ Placed ks t None = Unit {0}
 Placed ks t (Some a) = (f : ℕ) × (t ≡ apply f nil) × Behind ks a
 
 abbrev pub Good : Sig → State → Type 0
-Good sig (wants k) = Stack-good sig k
-Good sig (opens f a n k) = Frame sig f a nil n (stack-tokens sig k) × Stack-good sig k
-Good sig (has t m k) = Ticket sig t × Stack-good sig k × Placed (stack-tokens sig k) t m
+Good sig (wants k) = Context-good sig k
+Good sig (opens f a n k) = Frame sig f a nil n (stack-tokens sig k) × Context-good sig k
+Good sig (has t m k) = Ticket sig t × Context-good sig k × Placed (stack-tokens sig k) t m
 
 pub frame-next : {sig : Sig} {f : ℕ} {a : At} {ts : Terms} {n : ℕ} {ks : List Tok} (t : Term) → Frame sig f a ts (suc n) ks → Ticket sig t → Frame sig f a (and-then ts t) n ks
 frame-next {sig} {f} {a} {ts} {n} {ks} t g h = record { declared = g .declared; counted = omega (arith, many-then ts t, g .counted); tickets = tickets-then sig ts t (g .tickets) h; placed = g .placed }

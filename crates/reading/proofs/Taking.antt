@@ -12,7 +12,7 @@ use Rattle.reading.specs.declared.token.Mark.{Mark}
 use Rattle.reading.specs.declared.token.Mark.the-variants.{Opening, Closing, Comma, Equals, Dash, Blank, LineEnd}
 use Rattle.reading.specs.declared.fault.TextFault.{TextFault}
 use Rattle.reading.specs.Tokens.{Tok, a-name, a-number, an-instrument, a-variable, a-mark, a-stray}
-use Rattle.reading.specs.Reading.{Stack, top, within, State, wants, opens, has, closed, continued, on-has-mark, step}
+use Rattle.reading.specs.Reading.{Context, top, within, State, wants, opens, has, closed, continued, on-has-mark, step}
 use Rattle.reading.specs.Laws.{Kind, heads, numbers, variables, strays, marks, kind}
 
 abbrev term-kind : Kind → Bool
@@ -22,17 +22,17 @@ term-kind variables = false
 term-kind strays = false
 term-kind (marks m) = false
 
-abbrev takes-closing : Stack → Bool
+abbrev takes-closing : Context → Bool
 takes-closing top = false
 takes-closing (within f a ts zero k) = true
 takes-closing (within f a ts (suc n) k) = false
 
-abbrev takes-comma : Stack → Bool
+abbrev takes-comma : Context → Bool
 takes-comma top = false
 takes-comma (within f a ts zero k) = false
 takes-comma (within f a ts (suc n) k) = true
 
-abbrev takes-mark : Mark → Stack → Bool
+abbrev takes-mark : Mark → Context → Bool
 takes-mark Opening k = false
 takes-mark Closing k = takes-closing k
 takes-mark Comma k = takes-comma k
@@ -41,7 +41,7 @@ takes-mark Dash k = false
 takes-mark Blank k = false
 takes-mark LineEnd k = false
 
-abbrev follow-kind : Stack → Kind → Bool
+abbrev follow-kind : Context → Kind → Bool
 follow-kind k heads = false
 follow-kind k numbers = false
 follow-kind k variables = false
@@ -58,17 +58,17 @@ abbrev pub Fits : Bool → Result State TextFault → Type 0
 Fits b (Ok s) = b ≡ true
 Fits b (Err f) = Unit {0}
 
-fits-closed : (t : Term) (k : Stack) (at : At) → Fits (takes-closing k) (closed t k at)
+fits-closed : (t : Term) (k : Context) (at : At) → Fits (takes-closing k) (closed t k at)
 fits-closed t top at = tt
 fits-closed t (within f a ts zero k) at = refl
 fits-closed t (within f a ts (suc n) k) at = tt
 
-fits-continued : (t : Term) (k : Stack) (at : At) → Fits (takes-comma k) (continued t k at)
+fits-continued : (t : Term) (k : Context) (at : At) → Fits (takes-comma k) (continued t k at)
 fits-continued t top at = tt
 fits-continued t (within f a ts zero k) at = tt
 fits-continued t (within f a ts (suc n) k) at = refl
 
-fits-mark : (j : Mark) (at : At) (t : Term) (m : Option At) (k : Stack) → Fits (takes-mark j k) (on-has-mark j at t m k)
+fits-mark : (j : Mark) (at : At) (t : Term) (m : Option At) (k : Context) → Fits (takes-mark j k) (on-has-mark j at t m k)
 fits-mark Opening at t m k = tt
 fits-mark Closing at t m k = fits-closed t k at
 fits-mark Comma at t m k = fits-continued t k at

@@ -19,7 +19,7 @@ use Rattle.reading.specs.declared.token.Mark.the-variants.{Opening, Closing, C
 use Rattle.reading.specs.declared.fault.TextFault.{TextFault}
 use Rattle.reading.specs.Tokens.{Tok, a-name, a-number, an-instrument, a-variable, a-mark, a-stray, tokens, token-bytes, whole, lines, past}
 use Rattle.reading.specs.Numbers.{instrument-number}
-use Rattle.reading.specs.Reading.{Stack, top, within, State, wants, opens, has, and-then, named, with-name, with-number, closed, continued, on-opens-mark, on-has-mark, step}
+use Rattle.reading.specs.Reading.{Context, top, within, State, wants, opens, has, and-then, named, with-name, with-number, closed, continued, on-opens-mark, on-has-mark, step}
 use Rattle.reading.specs.Laws.{Behind, arguments-so-far}
 use Rattle.reading.proofs.Digits.{instrument-is}
 use Rattle.reading.proofs.Names.{found-is}
@@ -27,7 +27,7 @@ use Rattle.reading.proofs.Tokens.{Lexed}
 use Rattle.reading.proofs.Lexing.{tokens-term}
 use Rattle.reading.proofs.Equal.{same-ok}
 use Rattle.reading.proofs.Running.{reach, passed, reach-first}
-use Rattle.reading.proofs.States.{name-of, stack-tokens, state-tokens, arguments-then, awaiting-then, closing-then, Stack-good, Good, frame-next, frame-full}
+use Rattle.reading.proofs.States.{name-of, stack-tokens, state-tokens, arguments-then, awaiting-then, closing-then, Context-good, Good, frame-next, frame-full}
 
 -- places
 
@@ -48,23 +48,23 @@ module _ {sig : Sig} (good : Declared sig) where
   name-alone : (f : ℕ) → f < length sig → 0 ≡ op-of sig f .arity → tokens (text-of sig (apply f nil)) ≡ name-of sig f ∷ []
   name-alone f h e = tokens-term good (apply f nil) (h, e, tt)
 
-  named-keeps : (k : Stack) (f n : ℕ) (at : At) → Stack-good sig k → Behind (stack-tokens sig k) at → f < length sig → n ≡ op-of sig f .arity → Keeps sig (wants k) (name-of sig f) (Ok (named f n at k))
+  named-keeps : (k : Context) (f n : ℕ) (at : At) → Context-good sig k → Behind (stack-tokens sig k) at → f < length sig → n ≡ op-of sig f .arity → Keeps sig (wants k) (name-of sig f) (Ok (named f n at k))
   named-keeps k f zero at g p h e = (((h, e, tt), g, (f, refl, p)), ap (λ l. stack-tokens sig k ++ l) (name-alone f h e), refl)
   named-keeps k f (suc n) at g p h e = ((record { declared = h; counted = omega arith; tickets = tt; placed = p }, g), refl, refl)
 
-  name-keeps : (k : Stack) (s : List ℕ) (at : At) (o : Option ℕ) → found sig s ≡ o → Stack-good sig k → Behind (stack-tokens sig k) at → Keeps sig (wants k) (a-name s) (with-name sig o at k)
+  name-keeps : (k : Context) (s : List ℕ) (at : At) (o : Option ℕ) → found sig s ≡ o → Context-good sig k → Behind (stack-tokens sig k) at → Keeps sig (wants k) (a-name s) (with-name sig o at k)
   name-keeps k s at None e g p = tt
   name-keeps k s at (Some f) e g p =
       let (h, q) = found-is sig s f e in
       subst (λ x. Keeps sig (wants k) (a-name x) (with-name sig (Some f) at k)) q (named-keeps k f (op-of sig f .arity) at g p h refl)
 
-  number-keeps : (k : Stack) (s : List ℕ) (at : At) (o : Option ℕ) → instrument-number s ≡ o → Lexed (an-instrument s) → Stack-good sig k → Keeps sig (wants k) (an-instrument s) (with-number o at k)
+  number-keeps : (k : Context) (s : List ℕ) (at : At) (o : Option ℕ) → instrument-number s ≡ o → Lexed (an-instrument s) → Context-good sig k → Keeps sig (wants k) (an-instrument s) (with-number o at k)
   number-keeps k s at None e l g = tt
   number-keeps k s at (Some n) e l g =
       let (q, h) = instrument-is s n l e in
       ((h, g, tt), ap (λ x. stack-tokens sig k ++ x) (tokens-term good (instrument n) h ∙ ap (λ x. an-instrument x ∷ []) (sym q)), refl)
 
-  closed-keeps : (t : Term) (m : Option At) (k : Stack) (at : At) → Good sig (has t m k) → Keeps sig (has t m k) (a-mark Closing) (closed t k at)
+  closed-keeps : (t : Term) (m : Option At) (k : Context) (at : At) → Good sig (has t m k) → Keeps sig (has t m k) (a-mark Closing) (closed t k at)
   closed-keeps t m top at g = tt
   closed-keeps t m (within f a ts zero k) at g =
       let h : Ticket sig (apply f (and-then ts t)) = frame-full t (g .1 .0) (g .0) in (
@@ -76,7 +76,7 @@ module _ {sig : Sig} (good : Declared sig) where
       )
   closed-keeps t m (within f a ts (suc n) k) at g = tt
 
-  continued-keeps : (t : Term) (m : Option At) (k : Stack) (at : At) → Good sig (has t m k) → Keeps sig (has t m k) (a-mark Comma) (continued t k at)
+  continued-keeps : (t : Term) (m : Option At) (k : Context) (at : At) → Good sig (has t m k) → Keeps sig (has t m k) (a-mark Comma) (continued t k at)
   continued-keeps t m top at g = tt
   continued-keeps t m (within f a ts zero k) at g = tt
   continued-keeps t m (within f a ts (suc n) k) at g = (
@@ -86,7 +86,7 @@ module _ {sig : Sig} (good : Declared sig) where
     refl,
   )
 
-  mark-opens : (m : Mark) (f : ℕ) (a : At) (n : ℕ) (k : Stack) → Good sig (opens f a n k) → Keeps sig (opens f a n k) (a-mark m) (on-opens-mark m f a n k)
+  mark-opens : (m : Mark) (f : ℕ) (a : At) (n : ℕ) (k : Context) → Good sig (opens f a n k) → Keeps sig (opens f a n k) (a-mark m) (on-opens-mark m f a n k)
   mark-opens Opening f a n k g = (g, sym (append-assoc (stack-tokens sig k) (name-of sig f ∷ []) (a-mark Opening ∷ [])), refl)
   mark-opens Closing f a n k g = tt
   mark-opens Comma f a n k g = tt
@@ -95,7 +95,7 @@ module _ {sig : Sig} (good : Declared sig) where
   mark-opens Blank f a n k g = tt
   mark-opens LineEnd f a n k g = tt
 
-  mark-has : (k : Mark) (at : At) (t : Term) (m : Option At) (s : Stack) → Good sig (has t m s) → Keeps sig (has t m s) (a-mark k) (on-has-mark k at t m s)
+  mark-has : (k : Mark) (at : At) (t : Term) (m : Option At) (s : Context) → Good sig (has t m s) → Keeps sig (has t m s) (a-mark k) (on-has-mark k at t m s)
   mark-has Opening at t m s g = tt
   mark-has Closing at t m s g = closed-keeps t m s at g
   mark-has Comma at t m s g = continued-keeps t m s at g

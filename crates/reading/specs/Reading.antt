@@ -19,15 +19,15 @@ use Rattle.reading.specs.Tokens.{Tok, a-name, a-number, an-instrument, a-varia
 use Rattle.reading.specs.Numbers.{plain, instrument-number}
 
 -- the operators whose arguments are being read, the inmost first: its number, its place, the arguments read, and how many follow the one being read
-pub data Stack : Type 0 where
-  top : Stack
-  within : ℕ → At → Terms → ℕ → Stack → Stack
+pub data Context : Type 0 where
+  top : Context
+  within : ℕ → At → Terms → ℕ → Context → Context
 
 -- what may come: a term; '(' behind an operator that takes arguments, one and so many more; or what follows a term, with the place of an operator without arguments that stands just before
 pub data State : Type 0 where
-  wants : Stack → State
-  opens : ℕ → At → ℕ → Stack → State
-  has : Term → Option At → Stack → State
+  wants : Context → State
+  opens : ℕ → At → ℕ → Context → State
+  has : Term → Option At → Context → State
 
 -- a row with one more term at its end
 abbrev pub and-then : Terms → Term → Terms
@@ -48,20 +48,20 @@ fault-of (a-mark m) at f = f
 fault-of (a-stray b) at f = Stray at
 
 -- behind an operator of so many arguments
-abbrev pub named : ℕ → ℕ → At → Stack → State
+abbrev pub named : ℕ → ℕ → At → Context → State
 named f zero at k = has (apply f nil) (Some at) k
 named f (suc n) at k = opens f at n k
 
-abbrev pub with-name : Sig → Option ℕ → At → Stack → Result State TextFault
+abbrev pub with-name : Sig → Option ℕ → At → Context → Result State TextFault
 with-name sig None at k = Err (Undeclared at)
 with-name sig (Some f) at k = Ok (named f (op-of sig f .arity) at k)
 
-abbrev pub with-number : Option ℕ → At → Stack → Result State TextFault
+abbrev pub with-number : Option ℕ → At → Context → Result State TextFault
 with-number None at k = Err (BadNumber at)
 with-number (Some n) at k = Ok (has (instrument n) None k)
 
 -- where a term may begin
-abbrev pub on-wants : Sig → Tok → At → Stack → Result State TextFault
+abbrev pub on-wants : Sig → Tok → At → Context → Result State TextFault
 on-wants sig (a-name s) at k = with-name sig (found sig s) at k
 on-wants sig (a-number s) at k = Err (fault-of (a-number s) at (Unexpected at))
 on-wants sig (an-instrument s) at k = with-number (instrument-number s) at k
@@ -70,7 +70,7 @@ on-wants sig (a-mark m) at k = Err (Unexpected at)
 on-wants sig (a-stray b) at k = Err (Stray at)
 
 -- where '(' must stand, behind the operator f at a
-abbrev pub on-opens-mark : Mark → ℕ → At → ℕ → Stack → Result State TextFault
+abbrev pub on-opens-mark : Mark → ℕ → At → ℕ → Context → Result State TextFault
 on-opens-mark Opening f a n k = Ok (wants (within f a nil n k))
 on-opens-mark Closing f a n k = Err (WrongArity a)
 on-opens-mark Comma f a n k = Err (WrongArity a)
@@ -79,7 +79,7 @@ on-opens-mark Dash f a n k = Err (WrongArity a)
 on-opens-mark Blank f a n k = Err (WrongArity a)
 on-opens-mark LineEnd f a n k = Err (WrongArity a)
 
-abbrev pub on-opens : Tok → At → ℕ → At → ℕ → Stack → Result State TextFault
+abbrev pub on-opens : Tok → At → ℕ → At → ℕ → Context → Result State TextFault
 on-opens (a-name s) at f a n k = Err (WrongArity a)
 on-opens (a-number s) at f a n k = Err (fault-of (a-number s) at (WrongArity a))
 on-opens (an-instrument s) at f a n k = Err (fault-of (an-instrument s) at (WrongArity a))
@@ -93,18 +93,18 @@ needless None at = Unexpected at
 needless (Some a) at = WrongArity a
 
 -- ')' behind a term
-abbrev pub closed : Term → Stack → At → Result State TextFault
+abbrev pub closed : Term → Context → At → Result State TextFault
 closed t top at = Err (Unexpected at)
 closed t (within f a ts zero k) at = Ok (has (apply f (and-then ts t)) None k)
 closed t (within f a ts (suc n) k) at = Err (WrongArity a)
 
 -- ',' behind a term
-abbrev pub continued : Term → Stack → At → Result State TextFault
+abbrev pub continued : Term → Context → At → Result State TextFault
 continued t top at = Err (Unexpected at)
 continued t (within f a ts zero k) at = Err (WrongArity a)
 continued t (within f a ts (suc n) k) at = Ok (wants (within f a (and-then ts t) n k))
 
-abbrev pub on-has-mark : Mark → At → Term → Option At → Stack → Result State TextFault
+abbrev pub on-has-mark : Mark → At → Term → Option At → Context → Result State TextFault
 on-has-mark Opening at t m k = Err (needless m at)
 on-has-mark Closing at t m k = closed t k at
 on-has-mark Comma at t m k = continued t k at
@@ -114,7 +114,7 @@ on-has-mark Blank at t m k = Err (Unexpected at)
 on-has-mark LineEnd at t m k = Err (Unexpected at)
 
 -- behind a term
-abbrev pub on-has : Tok → At → Term → Option At → Stack → Result State TextFault
+abbrev pub on-has : Tok → At → Term → Option At → Context → Result State TextFault
 on-has (a-name s) at t m k = Err (Unexpected at)
 on-has (a-number s) at t m k = Err (fault-of (a-number s) at (Unexpected at))
 on-has (an-instrument s) at t m k = Err (fault-of (an-instrument s) at (Unexpected at))

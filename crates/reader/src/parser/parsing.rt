@@ -6,19 +6,19 @@ ghost use Rattle.std.specs.declared.result.Result.the-variants.{Ok, Err};
 ghost use Rattle.terms.specs.Term.{Term, instrument, apply, nil};
 ghost use Rattle.terms.specs.Declaring.{sig-of};
 ghost use Rattle.reader.specs.Lexing.{meaning};
-ghost use Rattle.reading.specs.Reading.{Stack, top, State, wants, opens, has, on-wants, on-opens, on-opens-mark, on-has, on-has-mark, needless, closed, continued, step, ending};
+ghost use Rattle.reading.specs.Reading.{Context, top, State, wants, opens, has, on-wants, on-opens, on-opens-mark, on-has, on-has-mark, needless, closed, continued, step, ending};
 ghost use lib.ListN.{length};
 ghost use Rattle.reader.specs.Parsing.{stack-nodes, Holds, Leaf, Roomy, Stepped, Moves, Finished};
+use super::Frame;
 use super::Parser;
 use super::Phase;
 use reading::fault::TextFault;
 use crate::judging::fault_of;
-use crate::frames::Frame;
-use crate::frames::Frames;
 use crate::number::instrument_number;
 use reading::token::At;
 use reading::token::Mark;
 use crate::token::Token;
+use stack::Stack;
 use terms::layout::Layout;
 use terms::node::Node;
 use terms::signature::Signature;
@@ -39,16 +39,17 @@ impl Parser {
     pub fn new() -> Parser
         ensures { λ r. ⌜ Holds r (wants top) ⌝ }
     {
+        let filler = Frame { node: 0, at: At { place: 0, line: 0 }, left: 0 };
         Parser {
             nodes: Layout::new(),
-            frames: Frames::new(),
+            frames: Stack::new(filler),
             phase: Phase::Wants,
         }
     }
 
     // An instrument, or an operator without arguments, where a term may begin.
     fn take_leaf(&mut self, symbol: Symbol, bare: Option<At>, at: At) -> Result<(), TextFault>
-        ensures { λ r. ⌜ ((k : Stack) (t : Term) → Holds (now (self .entry)) (wants k) → Roomy (wants k) (at .place) → Leaf symbol t → Stepped r (Ok (has t bare k)) (now (self .exit))) ⌝ }
+        ensures { λ r. ⌜ ((k : Context) (t : Term) → Holds (now (self .entry)) (wants k) → Roomy (wants k) (at .place) → Leaf symbol t → Stepped r (Ok (has t bare k)) (now (self .exit))) ⌝ }
     {
         let node = Node { symbol, first: None, next: None };
         let Some(root) = self.nodes.push(node) else {
@@ -60,7 +61,7 @@ impl Parser {
 
     // An operator of one argument and so many more, where a term may begin.
     fn take_operator(&mut self, operator: u8, left: u8, at: At) -> Result<(), TextFault>
-        ensures { λ r. ⌜ ((k : Stack) → Holds (now (self .entry)) (wants k) → Roomy (wants k) (at .place) → Stepped r (Ok (opens operator at left k)) (now (self .exit))) ⌝ }
+        ensures { λ r. ⌜ ((k : Context) → Holds (now (self .entry)) (wants k) → Roomy (wants k) (at .place) → Stepped r (Ok (opens operator at left k)) (now (self .exit))) ⌝ }
     {
         let first = self.nodes.len() as u16 + 1;
         let node = Node { symbol: Symbol::Operator(operator), first: Some(first), next: None };
@@ -73,7 +74,7 @@ impl Parser {
 
     // Where a term may begin.
     fn begin(&mut self, signature: &Signature, token: Token, at: At) -> Result<(), TextFault>
-        ensures { λ r. ⌜ ((k : Stack) → Holds (now (self .entry)) (wants k) → Roomy (wants k) (at .place) → Stepped r (on-wants (sig-of (now (signature .entry))) (meaning (token .entry)) at k) (now (self .exit))) ⌝ }
+        ensures { λ r. ⌜ ((k : Context) → Holds (now (self .entry)) (wants k) → Roomy (wants k) (at .place) → Stepped r (on-wants (sig-of (now (signature .entry))) (meaning (token .entry)) at k) (now (self .exit))) ⌝ }
     {
         match token {
             Token::Name(part) => {
@@ -99,7 +100,7 @@ impl Parser {
 
     // Where '(' must stand, behind an operator that takes arguments.
     fn open(&mut self, frame: Frame, token: Token, at: At) -> Result<(), TextFault>
-        ensures { λ r. ⌜ ((f : ℕ) (k : Stack) → Holds (now (self .entry)) (opens f (frame .at) (frame .left) k) → Roomy (opens f (frame .at) (frame .left) k) (at .place) → frame .node ≡ length (stack-nodes k) → Stepped r (on-opens (meaning (token .entry)) at f (frame .at) (frame .left) k) (now (self .exit))) ⌝ }
+        ensures { λ r. ⌜ ((f : ℕ) (k : Context) → Holds (now (self .entry)) (opens f (frame .at) (frame .left) k) → Roomy (opens f (frame .at) (frame .left) k) (at .place) → frame .node ≡ length (stack-nodes k) → Stepped r (on-opens (meaning (token .entry)) at f (frame .at) (frame .left) k) (now (self .exit))) ⌝ }
     {
         match token {
             Token::Mark(mark) => self.open_mark(frame, mark, at),
@@ -108,7 +109,7 @@ impl Parser {
     }
 
     fn open_mark(&mut self, frame: Frame, mark: Mark, at: At) -> Result<(), TextFault>
-        ensures { λ r. ⌜ ((f : ℕ) (k : Stack) → Holds (now (self .entry)) (opens f (frame .at) (frame .left) k) → Roomy (opens f (frame .at) (frame .left) k) (at .place) → frame .node ≡ length (stack-nodes k) → Stepped r (on-opens-mark mark f (frame .at) (frame .left) k) (now (self .exit))) ⌝ }
+        ensures { λ r. ⌜ ((f : ℕ) (k : Context) → Holds (now (self .entry)) (opens f (frame .at) (frame .left) k) → Roomy (opens f (frame .at) (frame .left) k) (at .place) → frame .node ≡ length (stack-nodes k) → Stepped r (on-opens-mark mark f (frame .at) (frame .left) k) (now (self .exit))) ⌝ }
     {
         let Mark::Opening = mark else {
             return Err(TextFault::WrongArity(frame.at));
@@ -122,7 +123,7 @@ impl Parser {
 
     // ')' behind a term.
     fn close(&mut self, at: At) -> Result<(), TextFault>
-        ensures { λ r. ⌜ ((t : Term) (m : Option At) (k : Stack) → Holds (now (self .entry)) (has t m k) → Stepped r (closed t k at) (now (self .exit))) ⌝ }
+        ensures { λ r. ⌜ ((t : Term) (m : Option At) (k : Context) → Holds (now (self .entry)) (has t m k) → Stepped r (closed t k at) (now (self .exit))) ⌝ }
     {
         let Some(frame) = self.frames.pop() else {
             return Err(TextFault::Unexpected(at));
@@ -136,7 +137,7 @@ impl Parser {
 
     // ',' behind a term, whose root then has the next node as its sibling.
     fn proceed(&mut self, root: u16, at: At) -> Result<(), TextFault>
-        ensures { λ r. ⌜ ((t : Term) (m : Option At) (k : Stack) → Holds (now (self .entry)) (has t m k) → Roomy (has t m k) (at .place) → root ≡ length (stack-nodes k) → Stepped r (continued t k at) (now (self .exit))) ⌝ }
+        ensures { λ r. ⌜ ((t : Term) (m : Option At) (k : Context) → Holds (now (self .entry)) (has t m k) → Roomy (has t m k) (at .place) → root ≡ length (stack-nodes k) → Stepped r (continued t k at) (now (self .exit))) ⌝ }
     {
         let Some(frame) = self.frames.pop() else {
             return Err(TextFault::Unexpected(at));
@@ -155,7 +156,7 @@ impl Parser {
 
     // Behind a term.
     fn follow(&mut self, root: u16, bare: Option<At>, token: Token, at: At) -> Result<(), TextFault>
-        ensures { λ r. ⌜ ((t : Term) (k : Stack) → Holds (now (self .entry)) (has t bare k) → Roomy (has t bare k) (at .place) → root ≡ length (stack-nodes k) → Stepped r (on-has (meaning (token .entry)) at t bare k) (now (self .exit))) ⌝ }
+        ensures { λ r. ⌜ ((t : Term) (k : Context) → Holds (now (self .entry)) (has t bare k) → Roomy (has t bare k) (at .place) → root ≡ length (stack-nodes k) → Stepped r (on-has (meaning (token .entry)) at t bare k) (now (self .exit))) ⌝ }
     {
         match token {
             Token::Mark(mark) => self.follow_mark(root, bare, mark, at),
@@ -164,7 +165,7 @@ impl Parser {
     }
 
     fn follow_mark(&mut self, root: u16, bare: Option<At>, mark: Mark, at: At) -> Result<(), TextFault>
-        ensures { λ r. ⌜ ((t : Term) (k : Stack) → Holds (now (self .entry)) (has t bare k) → Roomy (has t bare k) (at .place) → root ≡ length (stack-nodes k) → Stepped r (on-has-mark mark at t bare k) (now (self .exit))) ⌝ }
+        ensures { λ r. ⌜ ((t : Term) (k : Context) → Holds (now (self .entry)) (has t bare k) → Roomy (has t bare k) (at .place) → root ≡ length (stack-nodes k) → Stepped r (on-has-mark mark at t bare k) (now (self .exit))) ⌝ }
     {
         match mark {
             Mark::Opening => Err(needless_fault(bare, at)),

@@ -1,0 +1,5 @@
+pub mod Walks
+pub mod Rows
+pub mod Counting
+pub mod Bytes
+pub mod Pendings
