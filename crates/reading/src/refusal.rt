@@ -1,3 +1,5 @@
+pub mod showing;
+
 // The layer that refuses.
 #[derive(Clone, Copy, PartialEq, Eq, Debug)]
 pub enum Layer {

@@ -6,3 +6,4 @@ pub mod Signatures
 pub mod Readable
 pub mod Standing
 pub mod Laying
+pub mod Ascii

@@ -7,9 +7,11 @@ use lib.ListN.{length, getD, take, set}
 use Rattle.std.proofs.shelf.Lists.{length-map, length-take-le, getD-map, getD-take, getD-past, take-more-set, map-push, map-set}
 use Rattle.terms.proofs.Lists.{take-of-set}
 use Rattle.terms.specs.declared.operator.Operator.{Operator}
+use Rattle.terms.specs.declared.signature.Signature.{Signature}
+use Rattle.terms.specs.Declaring.{sig-of}
 use mathlib.Core.Bool.{Bool}
 use Rattle.std.specs.shelf.Text.{sameBytes}
-use Rattle.terms.specs.Signature.{Op, Sig, op-of}
+use Rattle.terms.specs.Signature.{Op, Sig, op-of, Declared}
 use Rattle.terms.specs.Operators.{op-from, ops-from}
 
 module _ (os : List Operator) (n : ℕ) (h : n ≤ length os) where
@@ -33,3 +35,7 @@ declared-set os n f o new e = ap ops-from (take-of-set n os f o) ∙ map-set op-
 
 pub declared-again : (os : List Operator) (n : ℕ) → n ≤ length os → (f : ℕ) (d o : Operator) (a : ℕ) → f < n → op-from o ≡ record { name = op-from (getD os f d) .name; arity = a } → ops-from (take n (set os f o)) ≡ set (ops-from (take n os)) f (record { name = op-of (ops-from (take n os)) f .name; arity = a })
 declared-again os n h f d o a k e = declared-set os n f o _ (e ∙ ap (λ (x : Op). record { name = x .name; arity = a }) (sym (declared-at os n h f d k)))
+
+-- a signature is what it must be
+pub declared : (s : Signature) → Declared (sig-of s)
+declared s = record { are-spelt = s .spelt; are-apart = s .apart; are-ranked = s .ranked }

@@ -52,7 +52,7 @@ digit-word k h = and-from _ _ (or-right (lower (48 + k)) _ (and-from _ _ (le-leb
 pub decimal-words : (n : ℕ) → n ≤ 999999 → all-words (decimal n) ≡ true
 decimal-words n h = decimal-by-steps (λ _ ds. all-words ds ≡ true) (λ k j. digit-word k j) (λ k ds j w. words-append ds ((48 + k % 10) ∷ []) w (digit-word (k % 10) (omega arith))) n (omega arith)
 
-spelt-words : (bs : List ℕ) → spelt bs ≡ true → all-words bs ≡ true
+pub spelt-words : (bs : List ℕ) → spelt bs ≡ true → all-words bs ≡ true
 spelt-words [] e = refl
 spelt-words (b ∷ bs) e = let (l, w) = and-parts (lower b) (all-words bs && leb (length bs) 11) e in and-from _ _ (or-left (lower b) (digit b) l) (and-parts (all-words bs) _ w .0)
 

@@ -2,18 +2,14 @@ use mathlib.Core.Path.{_≡_, refl, sym, ap, subst, _∙_}
 use native.Mathlib.Omega.{arith}
 use Rattle.std.proofs.shelf.Results.{err-from-errBy}
 use Rattle.std.specs.declared.result.Result.the-variants.{Ok, Err}
-use Rattle.terms.specs.Signature.{Sig, Declared}
 use Rattle.terms.specs.Declaring.{sig-of}
-use Rattle.terms.specs.declared.signature.Signature.{Signature}
+use Rattle.terms.proofs.Operators.{declared}
 use Rattle.reading.specs.Reading.{read-ticket}
 use Rattle.reader.specs.Parsing.{Finished}
 use Rattle.reading.proofs.Reading.{ticket-law}
 use Rattle.reader.specs.Ticket.{Reads}
 use Rattle.reader.proofs.Going.{Going, less-left, ready, going-on, going-wrong, going-end, short-text, long-text, answered}
 use Rattle.reader.proofs.ticket.read_ticket.Needs as need
-
-declared : (s : Signature) → Declared (sig-of s)
-declared s = record { are-spelt = s .spelt; are-apart = s .apart; are-ranked = s .ranked }
 
 pub returns-then-text-gt-TICKET-BYTES : need.returns-then-text-gt-TICKET-BYTES
 returns-then-text-gt-TICKET-BYTES c =
