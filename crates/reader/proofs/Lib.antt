@@ -4,3 +4,4 @@ pub mod Stacks
 pub mod Parsing
 pub mod Sparse
 pub mod Going
+pub mod Headings

@@ -1,3 +1,4 @@
 pub mod Lexing
 pub mod Parsing
 pub mod Ticket
+pub mod Heading

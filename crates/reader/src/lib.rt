@@ -5,3 +5,4 @@ pub mod number;
 pub mod judging;
 pub mod parser;
 pub mod ticket;
+pub mod heading;

@@ -19,11 +19,11 @@ use Rattle.reading.specs.Laws.{All-digits, further-arguments, arguments-so-far
 use Rattle.reading.proofs.Digits.{all-digits-decimal}
 
 -- what follows does not go on with this class of bytes
-abbrev Stops : (ℕ → Bool) → List ℕ → Type 0
+abbrev pub Stops : (ℕ → Bool) → List ℕ → Type 0
 Stops p [] = Unit {0}
 Stops p (b ∷ bs) = p b ≡ false
 
-front-is : (p : ℕ → Bool) (k : ℕ) (xs r : List ℕ) → All (λ b. p b ≡ true) xs → length xs ≤ k → Stops p r → front p k (xs ++ r) ≡ xs
+pub front-is : (p : ℕ → Bool) (k : ℕ) (xs r : List ℕ) → All (λ b. p b ≡ true) xs → length xs ≤ k → Stops p r → front p k (xs ++ r) ≡ xs
 front-is p zero [] r h l s = refl
 front-is p (suc k) [] [] h l s = refl
 front-is p (suc k) [] (b ∷ r) h l s = cond-false _ _ _ s
@@ -34,7 +34,7 @@ tokens-skip : (xs r : List ℕ) → tokens-from (length xs) (xs ++ r) ≡ tokens
 tokens-skip [] r = refl
 tokens-skip (x ∷ xs) r = tokens-skip xs r
 
-tokens-first : (b : ℕ) (bs r : List ℕ) (t : Tok) → first-token b (bs ++ r) ≡ t → token-bytes t ≡ b ∷ bs → tokens (b ∷ (bs ++ r)) ≡ t ∷ tokens r
+pub tokens-first : (b : ℕ) (bs r : List ℕ) (t : Tok) → first-token b (bs ++ r) ≡ t → token-bytes t ≡ b ∷ bs → tokens (b ∷ (bs ++ r)) ≡ t ∷ tokens r
 tokens-first b bs r t e q =
     ap (λ x. x ∷ tokens-from (length (token-bytes x) - 1) (bs ++ r)) e
     ∙ ap (λ n. t ∷ tokens-from n (bs ++ r)) (omega (arith, ap length q))
@@ -44,14 +44,14 @@ all-from-words : (bs : List ℕ) → all-words bs ≡ true → All (λ b. word b
 all-from-words [] h = tt
 all-from-words (b ∷ bs) h = let (p, q) = and-parts (word b) (all-words bs) h in (p, all-from-words bs q)
 
-tokens-name : (s r : List ℕ) → spelt s ≡ true → Stops word r → tokens (s ++ r) ≡ a-name s ∷ tokens r
+pub tokens-name : (s r : List ℕ) → spelt s ≡ true → Stops word r → tokens (s ++ r) ≡ a-name s ∷ tokens r
 tokens-name [] r h e = absurd (false≢true h)
 tokens-name (b ∷ bs) r h e =
     let (l, m) = and-parts (lower b) (all-words bs && leb (length bs) 11) h in
     let (w, n) = and-parts (all-words bs) (leb (length bs) 11) m in
     tokens-first b bs r (a-name (b ∷ bs)) (cond-true _ _ _ l ∙ ap (λ l. a-name (b ∷ l)) (front-is word 11 bs r (all-from-words bs w) (leb-true (length bs) 11 n) e)) refl
 
-stops-digit : (r : List ℕ) → Stops word r → Stops digit r
+pub stops-digit : (r : List ℕ) → Stops word r → Stops digit r
 stops-digit [] h = tt
 stops-digit (b ∷ r) h = or-parts (lower b) (digit b) h .1
 

@@ -14,4 +14,8 @@ pub mod Choosing
 pub mod Refusing
 pub mod Giving
 pub mod Reading
+pub mod Lines
+pub mod Counting
+pub mod Naming
+pub mod Headings
 pub mod Cases

@@ -1,4 +1,4 @@
--- The tokens of a text are its parts, and instruments have digits behind '#'.
+-- The tokens of a text are its parts; names are spelt, numbers are digits, and instruments have digits behind '#'.
 use mathlib.Core.Path.{_≡_, refl, sym, ap, subst, _∙_}
 use mathlib.Core.Bool.{Bool, true, false, cond, _&&_}
 use mathlib.Core.List.{List, [], _∷_, _++_}
@@ -8,8 +8,8 @@ use lib.Dec.{leb, eqb}
 use lib.ListN.{length, drop, length-append}
 use Rattle.std.specs.declared.option.Option.the-variants.{Some, None}
 use Rattle.std.specs.shelf.Lists.{All}
-use Rattle.std.proofs.shelf.Tests.{cond-both, eqb-true, leb-true, and-parts}
-use Rattle.terms.specs.Signature.{lower, digit, word}
+use Rattle.std.proofs.shelf.Tests.{cond-both, eqb-true, leb-true, le-leb, and-parts, and-from}
+use Rattle.terms.specs.Signature.{lower, digit, word, all-words, spelt}
 use Rattle.reading.specs.declared.token.Mark.{Mark}
 use Rattle.reading.specs.declared.token.Mark.the-variants.{Opening, Closing, Comma, Equals, Dash, Blank, LineEnd}
 use Rattle.reading.specs.Tokens.{Tok, a-name, a-number, an-instrument, a-variable, a-mark, a-stray, front, single, first-token, first-of-text, mark-byte, token-bytes, mark-lines, lines, tokens-from, tokens, whole}
@@ -24,10 +24,25 @@ front-all p zero bs = tt
 front-all p (suc k) [] = tt
 front-all p (suc k) (b ∷ bs) = cond-both (p b) (b ∷ front p k bs) [] (All (λ x. p x ≡ true)) (λ e. (e, front-all p k bs)) (λ _. tt)
 
--- an instrument is '#' and digits
+front-short : (p : ℕ → Bool) (k : ℕ) (bs : List ℕ) → length (front p k bs) ≤ k
+front-short p zero bs = omega arith
+front-short p (suc k) [] = omega arith
+front-short p (suc k) (b ∷ bs) = let ih = front-short p k bs in cond-both (p b) (b ∷ front p k bs) [] (λ l. length l ≤ suc k) (λ _. omega arith) (λ _. omega arith)
+
+words-from-all : (bs : List ℕ) → All (λ b. word b ≡ true) bs → all-words bs ≡ true
+words-from-all [] h = refl
+words-from-all (b ∷ bs) h = and-from (word b) (all-words bs) (h .0) (words-from-all bs (h .1))
+
+-- a name is a letter and the words behind it, 12 bytes at most
+name-spelt : (b : ℕ) (bs : List ℕ) → lower b ≡ true → spelt (b ∷ front word 11 bs) ≡ true
+name-spelt b bs l =
+    let w : List ℕ = front word 11 bs in
+    and-from (lower b) _ l (and-from (all-words w) _ (words-from-all w (front-all word 11 bs)) (le-leb (length w) 11 (front-short word 11 bs)))
+
+-- a name is spelt as one, a number is digits, an instrument is '#' and digits
 abbrev pub Lexed : Tok → Type 0
-Lexed (a-name s) = Unit {0}
-Lexed (a-number s) = Unit {0}
+Lexed (a-name s) = spelt s ≡ true
+Lexed (a-number s) = All (λ d. digit d ≡ true) s
 Lexed (an-instrument s) = All (λ d. digit d ≡ true) (drop 1 s)
 Lexed (a-variable x) = Unit {0}
 Lexed (a-mark m) = Unit {0}
@@ -67,8 +82,8 @@ fronted b bs k p n l e = record { lexed = l; more = front p n bs; bytes = e; res
 pub first-part : (b : ℕ) (bs : List ℕ) → Part b bs (first-token b bs)
 first-part b bs =
     let n : ℕ = length bs in
-    cond-both (lower b) _ _ (Part b bs) (λ _. fronted b bs (a-name (b ∷ front word 11 bs)) word 11 tt refl)
-    (λ _. cond-both (digit b) _ _ (Part b bs) (λ _. fronted b bs (a-number (b ∷ front digit n bs)) digit n tt refl)
+    cond-both (lower b) _ _ (Part b bs) (λ l. fronted b bs (a-name (b ∷ front word 11 bs)) word 11 (name-spelt b bs l) refl)
+    (λ _. cond-both (digit b) _ _ (Part b bs) (λ d. fronted b bs (a-number (b ∷ front digit n bs)) digit n (d, front-all digit n bs) refl)
     (λ _. cond-both (eqb b 35) _ _ (Part b bs) (λ _. fronted b bs (an-instrument (b ∷ front digit n bs)) digit n (front-all digit n bs) refl)
     (λ _. single-part b bs)))
 

@@ -1,0 +1,69 @@
+// Reads names and argument counts, then a ticket a line, and answers each line.
+use console::line::Line;
+use console::reply::Reply;
+use console::reply::replying::ReplyDisplay;
+use console::reply::replying::reply;
+use input::Ending;
+use input::Input;
+use input::read_line;
+use reader::heading::read_signature;
+use reading::fault::TextFault;
+use reading::token::At;
+use std::error::AnyError;
+use std::io::BufWriter;
+use std::io::Write;
+use terms::signature::Signature;
+
+mod input;
+
+// The signature of the first two lines, or the answer that refuses them.
+fn read_head(
+    rt: &LibcRuntime,
+    input: &mut Input,
+    line: &mut Line,
+) -> Result<Result<Signature, Reply<'static>>, AnyError> {
+    let mut head = Vec::new(rt.alloc());
+    for _ in 0..2 {
+        let ending = read_line(input, line)?;
+        let Some(text) = line.text() else {
+            let fault = TextFault::PastLimit(At { place: 0, line: 0 });
+            return Ok(Err(Reply::Refused(fault.refusal())));
+        };
+        head.extend_from_slice(text)?;
+        if let Ending::LineEnd = ending {
+            head.push(b'\n')?;
+        }
+    }
+    match read_signature(head.as_slice()) {
+        Ok(signature) => Ok(Ok(signature)),
+        Err(fault) => Ok(Err(Reply::Refused(fault.refusal()))),
+    }
+}
+
+fn run(rt: &LibcRuntime) -> Result<(), AnyError> {
+    let mut out = BufWriter::new(rt.stdout());
+    let mut input = Input::new(rt.stdin());
+    let mut line = Line::new();
+    let signature = match read_head(rt, &mut input, &mut line)? {
+        Ok(signature) => signature,
+        Err(refused) => {
+            writeln!(out, "{refused}")?;
+            out.flush()?;
+            return Ok(());
+        }
+    };
+    let mut buffer = [0; 4096];
+    for _ in 0..u64::MAX {
+        if let Ending::Nothing = read_line(&mut input, &mut line)? {
+            break;
+        }
+        let answer = reply(&signature, &line, &mut buffer);
+        writeln!(out, "{answer}")?;
+    }
+    out.flush()?;
+    Ok(())
+}
+
+fn main(rt: LibcRuntime) -> Result<(), AnyError> {
+    rt.report(run(&rt))
+}
