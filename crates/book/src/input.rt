@@ -23,7 +23,12 @@ pub struct Input {
 
 impl Input {
     pub fn new(stdin: Stdin) -> Input {
-        Input { stdin, chunk: [0; 65536], at: 0, len: 0 }
+        Input {
+            stdin,
+            chunk: [0; 65536],
+            at: 0,
+            len: 0,
+        }
     }
 
     // The next byte, or nothing at the end of the input.
@@ -57,5 +62,9 @@ pub fn read_line(input: &mut Input, line: &mut Line) -> io::Result<Ending> {
             None => break,
         }
     }
-    if some { Ok(Ending::InputEnd) } else { Ok(Ending::Nothing) }
+    if some {
+        Ok(Ending::InputEnd)
+    } else {
+        Ok(Ending::Nothing)
+    }
 }

@@ -1,6 +1,5 @@
 // Reads names and argument counts, then a ticket a line, and answers each line.
 use console::line::Line;
-use console::reply::Reply;
 use console::reply::replying::ReplyDisplay;
 use console::reply::replying::reply;
 use input::Ending;
@@ -8,6 +7,8 @@ use input::Input;
 use input::read_line;
 use reader::heading::read_signature;
 use reading::fault::TextFault;
+use reading::refusal::Refusal;
+use reading::refusal::showing::RefusalDisplay;
 use reading::token::At;
 use std::error::AnyError;
 use std::io::BufWriter;
@@ -16,18 +17,18 @@ use terms::signature::Signature;
 
 mod input;
 
-// The signature of the first two lines, or the answer that refuses them.
+// The signature of the first two lines, or the refusal of them.
 fn read_head(
     rt: &LibcRuntime,
     input: &mut Input,
     line: &mut Line,
-) -> Result<Result<Signature, Reply<'static>>, AnyError> {
+) -> Result<Result<Signature, Refusal>, AnyError> {
     let mut head = Vec::new(rt.alloc());
     for _ in 0..2 {
         let ending = read_line(input, line)?;
         let Some(text) = line.text() else {
             let fault = TextFault::PastLimit(At { place: 0, line: 0 });
-            return Ok(Err(Reply::Refused(fault.refusal())));
+            return Ok(Err(fault.refusal()));
         };
         head.extend_from_slice(text)?;
         if let Ending::LineEnd = ending {
@@ -36,7 +37,7 @@ fn read_head(
     }
     match read_signature(head.as_slice()) {
         Ok(signature) => Ok(Ok(signature)),
-        Err(fault) => Ok(Err(Reply::Refused(fault.refusal()))),
+        Err(fault) => Ok(Err(fault.refusal())),
     }
 }
 

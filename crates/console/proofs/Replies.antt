@@ -56,9 +56,10 @@ within-limit n h = h
 pub showable : (sig : Sig) (b : List ℕ) (l : Layout 2048) (buffer : List ℕ) → Laid-ticket l (read-ticket sig b) → Ticket-law sig b → length buffer ≡ 4096 → Showable sig l buffer
 showable sig b l buffer r law e =
     let told : Explained sig b (Ok (r .ticket)) = subst (Explained sig b) (r .given) (law .explained) in
-    record
-    { ticket = r .ticket
-    ; is-ticket = told .0
-    ; stands = r .stands
-    ; counted = r .counted
-    ; fits = omega (arith, e, ap length (told .1), within-limit (length b) (told .2)) }
+    record {
+      ticket = r .ticket;
+      is-ticket = told .0;
+      stands = r .stands;
+      counted = r .counted;
+      fits = omega (arith, e, ap length (told .1), within-limit (length b) (told .2));
+    }

@@ -55,15 +55,16 @@ module _ (sig : Sig) (text : List ℕ) where
       let k : Tok = meaning (x .token) in
       let here : step sig (g .state) (now-at l) k ≡ Ok s = ap (λ a. step sig (g .state) a k) (sym (r .its-place)) ∙ e in
       let place : m .place ≡ l .place + length (token-bytes k) = ap (λ (a : At). a .place) (r .behind) in
-      record
-      { state = s
-      ; holds = h
-      ; sparse = subst (Sparse s) (sym place) (sparse-step sig (now-at l) (l .place) (length (token-bytes k)) (r .some-bytes) k (g .state) s (g .sparse) here)
-      ; within = omega (arith, ap length (r .part), length-append (token-bytes k) (what-is-left m), g .within)
-      ; same =
-          ap (λ a. run sig s a (tokens (what-is-left m))) (r .behind)
-          ∙ sym (ap (run sig (g .state) (now-at l)) (r .first) ∙ ap (λ o. chain o (λ s′. run sig s′ (past (now-at l) k) (tokens (what-is-left m)))) here)
-          ∙ g .same }
+      record {
+        state = s;
+        holds = h;
+        sparse = subst (Sparse s) (sym place) (sparse-step sig (now-at l) (l .place) (length (token-bytes k)) (r .some-bytes) k (g .state) s (g .sparse) here);
+        within = omega (arith, ap length (r .part), length-append (token-bytes k) (what-is-left m), g .within);
+        same =
+            ap (λ a. run sig s a (tokens (what-is-left m))) (r .behind)
+            ∙ sym (ap (run sig (g .state) (now-at l)) (r .first) ∙ ap (λ o. chain o (λ s′. run sig s′ (past (now-at l) k) (tokens (what-is-left m)))) here)
+            ∙ g .same;
+      }
 
   -- the refused token
   pub going-wrong : (l : Lexer) (p : Parser) (x : Lexeme) (m : Lexer) (f : TextFault) (g : Going sig text l p) → Read-token l x m → step sig (g .state) (x .at) (meaning (x .token)) ≡ Err f → run sig (wants top) origin (tokens text) ≡ Err f

@@ -21,7 +21,7 @@ use Rattle.stack.specs.declared.Stack.{Stack as Pile}
 use Rattle.reader.specs.declared.parser.Phase.{Phase}
 use Rattle.reader.specs.declared.parser.Phase.the-variants.{Wants, Opens, Has}
 use Rattle.reader.specs.declared.parser.Parser.{Parser}
-use Rattle.stack.specs.Stack.{content, is-nil}
+use Rattle.stack.specs.Stack.{content}
 use Rattle.reading.specs.Reading.{Context, top, within, State, wants, opens, has, and-then, closed, continued, ending}
 use Rattle.reader.specs.Parsing.{operator-node, linked, stack-nodes, stack-frames, state-nodes, Holds, Sparse, Roomy}
 use Rattle.reader.proofs.Stacks.{closed-nodes, continued-nodes, fewer-frames}
@@ -40,11 +40,15 @@ pub close-holds : (p : Parser) (rest : Pile Frame 2048) (frame : Frame) (at : At
     → (s : State) × (closed t k at ≡ Ok s) × Holds (record { nodes = p .nodes; frames = rest; phase = Has (frame .node) None }) s
 close-holds p rest frame at t m top h e l = absurd (never-nil (sym (h .frames-are) ∙ e))
 close-holds p rest frame at t m (within f a ts zero k) h e l =
-    let both = sym e ∙ h .frames-are in
-    (has (apply f (and-then ts t)) None k, refl, record
-    { nodes-are = h .nodes-are ∙ closed-nodes t f (stack-nodes k) ts
-    ; frames-are = same-rest both
-    ; phase-is = ap (λ (x : Frame). Has (x .node) None) (same-top both) })
+    let both = sym e ∙ h .frames-are in (
+      has (apply f (and-then ts t)) None k,
+      refl,
+      record {
+        nodes-are = h .nodes-are ∙ closed-nodes t f (stack-nodes k) ts;
+        frames-are = same-rest both;
+        phase-is = ap (λ (x : Frame). Has (x .node) None) (same-top both);
+      },
+    )
 close-holds p rest frame at t m (within f a ts (suc n) k) h e l = absurd (omega (arith, ap (λ (x : Frame). x .left) (same-top (sym e ∙ h .frames-are))))
 
 -- there is room for one more frame
@@ -53,10 +57,11 @@ room-to-open f a n k place r = omega (arith, r .0, r .1, fewer-frames k, length-
 
 pub open-holds : (p : Parser) (more : Pile Frame 2048) (frame : Frame) (f : ℕ) (k : Context) → Holds p (opens f (frame .at) (frame .left) k) → frame .node ≡ length (stack-nodes k) → content more ≡ frame ∷ content (p .frames)
     → Holds (record { nodes = p .nodes; frames = more; phase = Wants }) (wants (within f (frame .at) nil (frame .left) k))
-open-holds p more frame f k h e q = record
-    { nodes-are = h .nodes-are
-    ; frames-are = q ∙ (λ i. record { node = e i; at = frame .at; left = frame .left } ∷ h .frames-are i)
-    ; phase-is = refl }
+open-holds p more frame f k h e q = record {
+  nodes-are = h .nodes-are;
+  frames-are = q ∙ (λ i. record { node = e i; at = frame .at; left = frame .left } ∷ h .frames-are i);
+  phase-is = refl;
+}
 
 -- ',' behind a term
 pub room-to-continue : (t : Term) (m : Option At) (k : Context) (place : ℕ) → Roomy (has t m k) place → length (stack-frames k) ≤ 2048
@@ -70,11 +75,15 @@ continue-holds p linkd rest more frame at root left next t m top h e q l n b u =
 continue-holds p linkd rest more frame at root left next t m (within f a ts zero k) h e q l n b u = absurd (omega (arith, ap (λ (x : Frame). x .left) (same-top (sym q ∙ h .frames-are))))
 continue-holds p linkd rest more frame at root left next t m (within f a ts (suc j) k) h e q l n b u =
     let both = sym q ∙ h .frames-are in
-    let less : left ≡ j = omega (arith, ap (λ (x : Frame). x .left) (same-top both)) in
-    (wants (within f a (and-then ts t) j k), refl, record
-    { nodes-are = b ∙ (λ i. with-next (h .nodes-are i) (e i) next) ∙ continued-nodes t f (stack-nodes k) ts next (n ∙ ap length (h .nodes-are))
-    ; frames-are = u ∙ (λ i. record { node = same-top both i .node; at = same-top both i .at; left = less i } ∷ same-rest both i)
-    ; phase-is = refl })
+    let less : left ≡ j = omega (arith, ap (λ (x : Frame). x .left) (same-top both)) in (
+      wants (within f a (and-then ts t) j k),
+      refl,
+      record {
+        nodes-are = b ∙ (λ i. with-next (h .nodes-are i) (e i) next) ∙ continued-nodes t f (stack-nodes k) ts next (n ∙ ap length (h .nodes-are));
+        frames-are = u ∙ (λ i. record { node = same-top both i .node; at = same-top both i .at; left = less i } ∷ same-rest both i);
+        phase-is = refl;
+      },
+    )
 
 -- the end of the text
 no-phase : {i : ℕ} {m : Option At} → Has i m ≡ Wants → ⊥
@@ -83,11 +92,8 @@ no-phase e = let z : _≡_ {A = ℕ} 0 1 = cc in omega arith
 no-opening : {i : ℕ} {m : Option At} {x : Frame} → Has i m ≡ Opens x → ⊥
 no-opening e = let z : _≡_ {A = ℕ} 0 1 = cc in omega arith
 
-no-empty : {x : Frame} {xs ys : List Frame} → true ≡ is-nil ys → ys ≡ x ∷ xs → ⊥
-no-empty e q = let h : true ≡ false = e ∙ ap is-nil q in let z : _≡_ {A = ℕ} 0 1 = cc in omega arith
-
-pub finish-holds : (p : Parser) (i : ℕ) (b : Option At) (at : At) (s : State) → Holds p s → p .phase ≡ Has i b → true ≡ is-nil (content (p .frames)) → (t : Term) × (ending s at ≡ Ok t) × Lays-out (p .nodes) t
+pub finish-holds : (p : Parser) (i : ℕ) (b : Option At) (at : At) (s : State) → Holds p s → p .phase ≡ Has i b → content (p .frames) ≡ [] → (t : Term) × (ending s at ≡ Ok t) × Lays-out (p .nodes) t
 finish-holds p i b at (wants k) h e q = absurd (no-phase (sym e ∙ h .phase-is))
 finish-holds p i b at (opens f a n k) h e q = absurd (no-opening (sym e ∙ h .phase-is))
 finish-holds p i b at (has t m top) h e q = (t, refl, h .nodes-are)
-finish-holds p i b at (has t m (within f a ts n k)) h e q = absurd (no-empty q (h .frames-are))
+finish-holds p i b at (has t m (within f a ts n k)) h e q = absurd (never-nil (sym q ∙ h .frames-are))

@@ -8,14 +8,14 @@ use reading::heading::Stage;
 use reading::token::At;
 use terms::signature::Signature;
 
-pub mod stepping;
+mod stepping;
 
 // How many bytes a sheet may have.
 pub const SHEET_BYTES: usize = 32768;
 
 // What is read so far of the lines that head a sheet: the operators, and what may come.
 #[derive(Clone, Copy)]
-pub struct Heading {
+struct Heading {
     signature: Signature,
     stage: Stage,
 }

@@ -1,11 +1,11 @@
 ghost use mathlib.Core.Path.{_≡_};
 ghost use Rattle.reader.specs.Lexing.{meaning};
 ghost use Rattle.reading.specs.Reading.{fault-of};
-use reading::fault::TextFault;
 use crate::number::instrument_number;
 use crate::number::is_plain;
-use reading::token::At;
 use crate::token::Token;
+use reading::fault::TextFault;
+use reading::token::At;
 
 // The fault of a token that is refused with `fault`: what is wrong with the token by itself goes first.
 pub fn fault_of(token: Token, at: At, fault: TextFault) -> TextFault

@@ -5,11 +5,11 @@ ghost use lib.ListN.{length, getD, drop};
 ghost use Rattle.reading.specs.Tokens.{front, single, first-token, first-of-text, token-bytes, lines, origin};
 ghost use Rattle.std.specs.Options.{mapped};
 ghost use Rattle.reader.specs.Lexing.{in-class, meaning, what-is-left, now-at, Lexed};
-use reading::token::At;
 use crate::token::Lexeme;
 use crate::token::Lexer;
-use reading::token::Mark;
 use crate::token::Token;
+use reading::token::At;
+use reading::token::Mark;
 
 // A name has at most so many bytes behind its first.
 const NAME_REST: usize = 11;
@@ -114,14 +114,21 @@ impl<'t> Lexer<'t> {
         ensures rest { λ r. ⌜ what-is-left r ≡ now (text .entry) ⌝ }
         ensures at { λ r. ⌜ now-at r ≡ origin ⌝ }
     {
-        Lexer { rest: text, place: 0, line: 0 }
+        Lexer {
+            rest: text,
+            place: 0,
+            line: 0,
+        }
     }
 
     // Where the rest of the text begins.
     pub fn at(&self) -> At
         ensures { λ r. ⌜ r ≡ now-at (now (self .entry)) ⌝ }
     {
-        At { place: self.place, line: self.line }
+        At {
+            place: self.place,
+            line: self.line,
+        }
     }
 
     // The next token with its place, or nothing at the end of the text; the lexer then stands behind it.

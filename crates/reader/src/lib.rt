@@ -1,8 +1,8 @@
-// Texts read: tokens, tickets, and what is wrong with a text.
-pub mod token;
-pub mod lexer;
-pub mod number;
-pub mod judging;
-pub mod parser;
-pub mod ticket;
+// Texts read: tickets, and the two lines that head a sheet.
 pub mod heading;
+mod judging;
+mod lexer;
+mod number;
+mod parser;
+pub mod ticket;
+mod token;

@@ -33,7 +33,11 @@ fn value(digits: &[u8], most: u32) -> Option<u32>
 pub fn number(digits: &[u8], most: u32) -> Option<u32>
     ensures { λ r. ⌜ r ≡ numbered most (now (digits .entry)) ⌝ }
 {
-    if is_plain(digits) { value(digits, most) } else { None }
+    if is_plain(digits) {
+        value(digits, most)
+    } else {
+        None
+    }
 }
 
 // The number of an instrument, from '#' and its digits.

@@ -1,6 +1,5 @@
 ghost use Prim.Native.Nat.{_+_, _^_, _<_, _≤_};
 ghost use lib.ListN.{length};
-
 use reading::token::At;
 use reading::token::Mark;
 

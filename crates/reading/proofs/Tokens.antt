@@ -142,12 +142,15 @@ tokens-step (b ∷ bs) k e =
     let long = ap length (part .bytes) in
     let fits : length bs ≡ length (part .more) + length (drop (length (part .more)) bs) = sym (ap length (part .rest)) ∙ length-append (part .more) (drop (length (part .more)) bs) in
     subst (Steps (b ∷ bs)) same
-    (record
-    { then-tokens =
-        ap (λ l. first-token b bs ∷ l)
-        (tokens-behind (length (token-bytes (first-token b bs)) - 1) bs
-        ∙ ap (λ x. tokens (drop x (b ∷ bs))) (let z : suc (length (token-bytes (first-token b bs)) - 1) ≡ length (token-bytes (first-token b bs)) = omega arith in z))
-    ; its-part =
-        ap (λ l. b ∷ l) (sym (part .rest)) ∙ ap (λ l. l ++ drop (length (part .more)) bs) (sym (part .bytes))
-        ∙ ap (λ x. token-bytes (first-token b bs) ++ drop x (b ∷ bs)) (let z : suc (length (part .more)) ≡ length (token-bytes (first-token b bs)) = omega arith in z)
-    ; within = omega arith; some-bytes = omega arith; few-lines = lines-within (first-token b bs) })
+    (record {
+      then-tokens =
+          ap (λ l. first-token b bs ∷ l)
+          (tokens-behind (length (token-bytes (first-token b bs)) - 1) bs
+          ∙ ap (λ x. tokens (drop x (b ∷ bs))) (let z : suc (length (token-bytes (first-token b bs)) - 1) ≡ length (token-bytes (first-token b bs)) = omega arith in z));
+      its-part =
+          ap (λ l. b ∷ l) (sym (part .rest)) ∙ ap (λ l. l ++ drop (length (part .more)) bs) (sym (part .bytes))
+          ∙ ap (λ x. token-bytes (first-token b bs) ++ drop x (b ∷ bs)) (let z : suc (length (part .more)) ≡ length (token-bytes (first-token b bs)) = omega arith in z);
+      within = omega arith;
+      some-bytes = omega arith;
+      few-lines = lines-within (first-token b bs);
+    })

@@ -1,7 +1,6 @@
 ghost use mathlib.Core.Path.{_≡_};
 ghost use Rattle.reading.specs.declared.fault.SheetFault.the-variants.{Text};
 use crate::token::At;
-
 use crate::token::AtPartialEq;
 
 // What is wrong with a text, and where.

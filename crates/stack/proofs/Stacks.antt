@@ -1,14 +1,12 @@
 -- Stacks in an array, read from the top.
-use mathlib.Core.Path.{_≡_, refl, sym, ap, _∙_}
+use mathlib.Core.Path.{_≡_, ap, _∙_}
 use mathlib.Core.Bool.{Bool, true, false}
 use mathlib.Core.List.{List, [], _∷_, reverse}
-use Prim.Native.Nat.{ℕ, suc, _+_, _-_, _<_, _≤_}
+use Prim.Native.Nat.{ℕ, _+_, _-_, _<_, _≤_}
 use native.Mathlib.Omega.{arith}
 use lib.ListN.{length, take, getD, set, length-take}
 use Rattle.std.proofs.shelf.Lists.{take-more, take-more-set, reverse-append, length-reverse}
-use lib.Dec.{eqb}
-use Rattle.std.proofs.shelf.Tests.{ne-eqb}
-use Rattle.stack.specs.Stack.{is-nil, Added}
+use Rattle.stack.specs.Stack.{Added}
 
 pub pushed : {T : Type 0} (xs : List T) (n : ℕ) (x : T) → n < length xs → reverse (take (n + 1) (set xs n x)) ≡ x ∷ reverse (take n xs)
 pushed xs n x h = ap reverse (take-more-set xs n x h) ∙ reverse-append (take n xs) (x ∷ [])
@@ -27,10 +25,3 @@ depth xs n h = length-reverse (take n xs) ∙ omega (arith, length-take n xs)
 pub first-put : {T : Type 0} (r : Bool) (N : ℕ) (before after : List T) (x : T) → 0 < N → before ≡ [] → Added N before x after r → after ≡ x ∷ []
 first-put true N before after x some e a = a ∙ ap (λ l. x ∷ l) e
 first-put false N before after x some e a = let long = ap length e in absurd (let z : ⊥ = omega (arith, a .1) in z)
-
-none-left : {T : Type 0} (l : List T) → eqb (length l) 0 ≡ is-nil l
-none-left [] = refl
-none-left (x ∷ xs) = ne-eqb (suc (length xs)) 0 (λ e. omega arith)
-
-pub empty : {T : Type 0} (xs : List T) (n : ℕ) → n ≤ length xs → eqb n 0 ≡ is-nil (reverse (take n xs))
-empty xs n h = ap (λ k. eqb k 0) (sym (depth xs n h)) ∙ none-left (reverse (take n xs))

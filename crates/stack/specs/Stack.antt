@@ -11,10 +11,6 @@ use Rattle.stack.specs.declared.Stack.{Stack}
 abbrev pub content : {T : Type 0} {N : ℕ} → Stack T N → List T
 content s = reverse (take (s .len) (s .slots))
 
-abbrev pub is-nil : {T : Type 0} → List T → Bool
-is-nil [] = true
-is-nil (x ∷ xs) = false
-
 -- the item is on top; or there is no room for it, and nothing changes
 abbrev pub Added : {T : Type 0} → ℕ → List T → T → List T → Bool → Type 0
 Added N before x after true = after ≡ x ∷ before

@@ -1,6 +1,6 @@
 ghost use mathlib.Core.Path.{_≡_};
 ghost use mathlib.Core.List.{[]};
-ghost use Rattle.stack.specs.Stack.{content, is-nil, Added, Removed};
+ghost use Rattle.stack.specs.Stack.{content, Added, Removed};
 use crate::Stack;
 
 impl<T: Copy, const N: usize> Stack<T, N> {
@@ -35,11 +35,5 @@ impl<T: Copy, const N: usize> Stack<T, N> {
         }
         self.len -= 1;
         Some(self.slots[self.len])
-    }
-
-    pub fn is_empty(&self) -> bool
-        ensures { λ r. ⌜ r ≡ is-nil (content (now (self .entry))) ⌝ }
-    {
-        self.len == 0
     }
 }

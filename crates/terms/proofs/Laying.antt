@@ -97,10 +97,13 @@ mutual
   row-laid : (ns : List Node) (p k j : ℕ) (ts : Terms) → All-narrow ts → k + how-many ts ≤ 3 → along ns (getD ns p vacant .first) k ≡ start j ts → At ns j (laid-row j ts) → Stand-from (node-answers ns) p k ts
   row-laid ns p k j nil h few e a = ⊎-elim (λ (m : k < 3). argument-within ns p k m ∙ e) (λ (m : 3 ≤ k). argument-past ns p k m) (cases-lt k 3)
   row-laid ns p k j (cons t ts) h few e a =
-      let here = at-front ns j (laid j (start (j + symbols t) ts) t) (laid-row (j + symbols t) ts) a in
-      (j, argument-within ns p k (omega arith) ∙ e, stands-laid ns j (start (j + symbols t) ts) t (h .0) here,
-       row-laid ns p (suc k) (j + symbols t) ts (h .1) (omega arith) (along-suc ns (getD ns p vacant .first) k j e ∙ next-at ns j (start (j + symbols t) ts) t here)
-       (at-back ns j (j + symbols t) (laid j (start (j + symbols t) ts) t) (laid-row (j + symbols t) ts) a (omega (arith, length-laid j (start (j + symbols t) ts) t))))
+      let here = at-front ns j (laid j (start (j + symbols t) ts) t) (laid-row (j + symbols t) ts) a in (
+        j,
+        argument-within ns p k (omega arith) ∙ e,
+        stands-laid ns j (start (j + symbols t) ts) t (h .0) here,
+        row-laid ns p (suc k) (j + symbols t) ts (h .1) (omega arith) (along-suc ns (getD ns p vacant .first) k j e ∙ next-at ns j (start (j + symbols t) ts) t here)
+            (at-back ns j (j + symbols t) (laid j (start (j + symbols t) ts) t) (laid-row (j + symbols t) ts) a (omega (arith, length-laid j (start (j + symbols t) ts) t))),
+      )
 
 -- a whole layout
 pub laid-stands : (ns : List Node) (t : Term) → Narrow t → ns ≡ laid 0 None t → Stands (node-answers ns) 0 t

@@ -1,9 +1,9 @@
 // Terms, tickets and their text; the nodes that hold terms, and views of them.
-pub mod symbol;
-pub mod node;
-pub mod view;
-pub mod renamed;
-pub mod layout;
-pub mod operator;
-pub mod signature;
 pub mod laws;
+pub mod layout;
+pub mod node;
+pub mod operator;
+pub mod renamed;
+pub mod signature;
+pub mod symbol;
+pub mod view;

@@ -1,6 +1,6 @@
 use crate::symbol::Symbol;
 
-// A symbol, the place of its first argument and the place of its next sibling.
+// A symbol, the place of its first argument and the place of its next sibling. The node of zeros is vacant.
 #[derive(Clone, Copy)]
 pub struct Node {
     pub symbol: Symbol,

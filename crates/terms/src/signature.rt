@@ -14,6 +14,7 @@ pub struct Signature {
     len: usize,
     ghost whole: { length operators ≡ 32 },
     ghost fits: { len ≤ 32 },
+    ghost counted: { length (ops-from (take len operators)) ≡ len },
     ghost spelt: { Spelt (ops-from (take len operators)) },
     ghost apart: { Apart (ops-from (take len operators)) },
     ghost ranked: { Ranked (ops-from (take len operators)) },

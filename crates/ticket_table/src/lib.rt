@@ -66,7 +66,12 @@ mod tests {
                 return Err(Fail::new("more fronts than bytes"));
             }
             let found = answer(rt.alloc(), &signature, &LONG.as_bytes()[0..n])?;
-            let refusal = Refusal { number, layer: Layer::Text, place, second: 0 };
+            let refusal = Refusal {
+                number,
+                layer: Layer::Text,
+                place,
+                second: 0,
+            };
             let expected = format!(rt.alloc(), "{refusal}")?;
             check_eq(found.as_str(), expected.as_str()).note(LONG)?;
             n += 1;
@@ -94,7 +99,9 @@ mod tests {
         let longest = deep(heap, b"#12345")?;
         check_eq(longest.len(), 4096)?;
         let found = answer(heap, &signature, longest.as_slice())?;
-        let text = std::str::from_utf8(longest.as_slice()).ok().ok_or("no text")?;
+        let text = std::str::from_utf8(longest.as_slice())
+            .ok()
+            .ok_or("no text")?;
         let expected = format!(heap, "ticket 819 {text}")?;
         check_eq(found.as_str(), expected.as_str()).note("4096 bytes")?;
         let longer = deep(heap, b"#123456")?;

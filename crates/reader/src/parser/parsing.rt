@@ -12,12 +12,12 @@ ghost use Rattle.reader.specs.Parsing.{stack-nodes, Holds, Leaf, Roomy, Steppe
 use super::Frame;
 use super::Parser;
 use super::Phase;
-use reading::fault::TextFault;
 use crate::judging::fault_of;
 use crate::number::instrument_number;
+use crate::token::Token;
+use reading::fault::TextFault;
 use reading::token::At;
 use reading::token::Mark;
-use crate::token::Token;
 use stack::Stack;
 use terms::layout::Layout;
 use terms::node::Node;
@@ -39,7 +39,11 @@ impl Parser {
     pub fn new() -> Parser
         ensures { λ r. ⌜ Holds r (wants top) ⌝ }
     {
-        let filler = Frame { node: 0, at: At { place: 0, line: 0 }, left: 0 };
+        let filler = Frame {
+            node: 0,
+            at: At { place: 0, line: 0 },
+            left: 0,
+        };
         Parser {
             nodes: Layout::new(),
             frames: Stack::new(filler),
@@ -51,7 +55,11 @@ impl Parser {
     fn take_leaf(&mut self, symbol: Symbol, bare: Option<At>, at: At) -> Result<(), TextFault>
         ensures { λ r. ⌜ ((k : Context) (t : Term) → Holds (now (self .entry)) (wants k) → Roomy (wants k) (at .place) → Leaf symbol t → Stepped r (Ok (has t bare k)) (now (self .exit))) ⌝ }
     {
-        let node = Node { symbol, first: None, next: None };
+        let node = Node {
+            symbol,
+            first: None,
+            next: None,
+        };
         let Some(root) = self.nodes.push(node) else {
             return Err(TextFault::PastLimit(at));
         };
@@ -64,11 +72,19 @@ impl Parser {
         ensures { λ r. ⌜ ((k : Context) → Holds (now (self .entry)) (wants k) → Roomy (wants k) (at .place) → Stepped r (Ok (opens operator at left k)) (now (self .exit))) ⌝ }
     {
         let first = self.nodes.len() as u16 + 1;
-        let node = Node { symbol: Symbol::Operator(operator), first: Some(first), next: None };
+        let node = Node {
+            symbol: Symbol::Operator(operator),
+            first: Some(first),
+            next: None,
+        };
         let Some(root) = self.nodes.push(node) else {
             return Err(TextFault::PastLimit(at));
         };
-        self.phase = Phase::Opens(Frame { node: root, at, left });
+        self.phase = Phase::Opens(Frame {
+            node: root,
+            at,
+            left,
+        });
         Ok(())
     }
 
@@ -131,7 +147,10 @@ impl Parser {
         if frame.left > 0 {
             return Err(TextFault::WrongArity(frame.at));
         }
-        self.phase = Phase::Has { root: frame.node, bare: None };
+        self.phase = Phase::Has {
+            root: frame.node,
+            bare: None,
+        };
         Ok(())
     }
 
@@ -147,7 +166,11 @@ impl Parser {
         };
         let next = self.nodes.len() as u16;
         self.nodes.link(root, next);
-        if !self.frames.push(Frame { node: frame.node, at: frame.at, left }) {
+        if !self.frames.push(Frame {
+            node: frame.node,
+            at: frame.at,
+            left,
+        }) {
             return Err(TextFault::PastLimit(at));
         }
         self.phase = Phase::Wants;
@@ -164,7 +187,13 @@ impl Parser {
         }
     }
 
-    fn follow_mark(&mut self, root: u16, bare: Option<At>, mark: Mark, at: At) -> Result<(), TextFault>
+    fn follow_mark(
+        &mut self,
+        root: u16,
+        bare: Option<At>,
+        mark: Mark,
+        at: At,
+    ) -> Result<(), TextFault>
         ensures { λ r. ⌜ ((t : Term) (k : Context) → Holds (now (self .entry)) (has t bare k) → Roomy (has t bare k) (at .place) → root ≡ length (stack-nodes k) → Stepped r (on-has-mark mark at t bare k) (now (self .exit))) ⌝ }
     {
         match mark {
@@ -187,19 +216,16 @@ impl Parser {
     }
 
     // The end of the text.
-    pub fn finish(&self, at: At) -> Result<Layout<2048>, TextFault>
+    pub fn finish(&mut self, at: At) -> Result<Layout<2048>, TextFault>
         ensures { λ r. ⌜ ((s : State) → Holds (now (self .entry)) s → Finished r (ending s at)) ⌝ }
     {
         match self.phase {
             Phase::Wants => Err(TextFault::Unexpected(at)),
             Phase::Opens(frame) => Err(TextFault::WrongArity(frame.at)),
-            Phase::Has { .. } => {
-                if self.frames.is_empty() {
-                    Ok(self.nodes)
-                } else {
-                    Err(TextFault::Unexpected(at))
-                }
-            }
+            Phase::Has { .. } => match self.frames.pop() {
+                None => Ok(self.nodes),
+                Some(_) => Err(TextFault::Unexpected(at)),
+            },
         }
     }
 }

@@ -2,7 +2,7 @@ ghost use mathlib.Core.Path.{_≡_};
 ghost use mathlib.Core.List.{List, [], _∷_, _++_};
 ghost use Prim.Native.Nat.{ℕ, _≤_, _<_};
 ghost use lib.ListN.{length, getD, set};
-ghost use Rattle.terms.specs.Nodes.{vacant, told, node-answers, with-next};
+ghost use Rattle.terms.specs.Nodes.{vacant, told, along, node-answers, with-next};
 ghost use Rattle.terms.specs.Layout.{in-use, Pushed};
 use super::Layout;
 use crate::node::Node;
@@ -15,7 +15,11 @@ impl<const N: usize> Layout<N> {
         ensures { λ r. ⌜ in-use r ≡ [] ⌝ }
     {
         Layout {
-            nodes: [Node { symbol: Symbol::Vacant, first: None, next: None }; N],
+            nodes: [Node {
+                symbol: Symbol::Vacant,
+                first: None,
+                next: None,
+            }; N],
             len: 0,
         }
     }
@@ -25,7 +29,8 @@ impl<const N: usize> Layout<N> {
         ensures value { λ r. ⌜ r ≡ length (in-use (now (self .entry))) ⌝ }
         ensures few { λ r. ⌜ r ≤ N ⌝ }
     {
-        self.len
+        let Layout { len, .. } = self;
+        *len
     }
 
     // Puts one more node into use and answers its place, or nothing where there is no room or no place number.
@@ -58,11 +63,28 @@ impl<const N: usize> Layout<N> {
         ensures { λ r. ⌜ r ≡ getD (in-use (now (self .entry))) place vacant ⌝ }
     {
         let at = place as usize;
-        if at < self.len {
-            self.nodes[at]
-        } else {
-            Node { symbol: Symbol::Vacant, first: None, next: None }
+        if at >= self.len {
+            return Node {
+                symbol: Symbol::Vacant,
+                first: None,
+                next: None,
+            };
         }
+        self.nodes[at]
+    }
+
+    // So many siblings along from a link.
+    fn along(&self, start: Option<u16>, n: usize) -> Option<u16>
+        ensures { λ r. ⌜ r ≡ along (in-use (now (self .entry))) start n ⌝ }
+    {
+        let mut link = start;
+        for _k in 0..n {
+            let Some(q) = link else {
+                return None;
+            };
+            link = self.node(q).next;
+        }
+        link
     }
 }
 
@@ -80,13 +102,6 @@ pub impl<const N: usize> TermView for Layout<N> as LayoutView {
         if n >= 3 {
             return None;
         }
-        let mut link = self.node(place).first;
-        for _k in 0..n {
-            let Some(q) = link else {
-                return None;
-            };
-            link = self.node(q).next;
-        }
-        link
+        self.along(self.node(place).first, n)
     }
 }

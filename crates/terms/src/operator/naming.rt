@@ -12,7 +12,10 @@ impl Name {
     pub(crate) fn blank() -> Name
         ensures { λ r. ⌜ bytes-of r ≡ [] ⌝ }
     {
-        Name { bytes: [0; 12], len: 0 }
+        Name {
+            bytes: [0; 12],
+            len: 0,
+        }
     }
 
     pub(crate) fn new(part: &[u8]) -> Name
@@ -74,14 +77,20 @@ impl Operator {
     pub(crate) fn blank() -> Operator
         ensures { λ r. ⌜ op-from r ≡ record { name = []; arity = 0 } ⌝ }
     {
-        Operator { name: Name::blank(), arity: 0 }
+        Operator {
+            name: Name::blank(),
+            arity: 0,
+        }
     }
 
     pub(crate) fn new(name: &[u8], arity: u8) -> Operator
         requires { ⌜ length (now name) ≤ 12 ⌝ }
         ensures { λ r. ⌜ op-from r ≡ record { name = now (name .entry); arity = arity } ⌝ }
     {
-        Operator { name: Name::new(name), arity }
+        Operator {
+            name: Name::new(name),
+            arity,
+        }
     }
 
     pub(crate) fn name(&self) -> &[u8]
@@ -101,6 +110,9 @@ impl Operator {
     pub(crate) fn ranked(&self, arity: u8) -> Operator
         ensures { λ r. ⌜ op-from r ≡ record { name = op-from (now (self .entry)) .name; arity = arity } ⌝ }
     {
-        Operator { name: self.name, arity }
+        Operator {
+            name: self.name,
+            arity,
+        }
     }
 }

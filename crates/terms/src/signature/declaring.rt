@@ -3,6 +3,8 @@ ghost use mathlib.Core.List.{[]};
 ghost use Prim.Native.Nat.{_≤_};
 ghost use lib.ListN.{length};
 ghost use Rattle.terms.specs.Signature.{op-of, found};
+ghost use Rattle.std.specs.Options.{Cases as BySome};
+ghost use Rattle.terms.specs.Operators.{op-from};
 ghost use Rattle.terms.specs.Declaring.{sig-of, Declares, Ranks};
 use super::Signature;
 use crate::operator::Name;
@@ -26,7 +28,19 @@ impl Signature {
         ensures value { λ r. ⌜ r ≡ length (sig-of (now (self .entry))) ⌝ }
         ensures few { λ r. ⌜ r ≤ 32 ⌝ }
     {
-        self.len
+        let Signature { len, .. } = self;
+        *len
+    }
+
+    // The operator of a number, if it is declared.
+    fn operator(&self, operator: u8) -> Option<&Operator>
+        ensures { λ r. ⌜ BySome r (op-of (sig-of (now (self .entry))) operator ≡ record { name = []; arity = 0 }) (λ x. (op-of (sig-of (now (self .entry))) operator ≡ op-from (now x)) × (op-from (now x) .arity ≤ 3)) ⌝ }
+    {
+        let at = operator as usize;
+        if at >= self.len {
+            return None;
+        }
+        Some(&self.operators[at])
     }
 
     // The name of an operator, empty where it is not declared.
@@ -34,11 +48,10 @@ impl Signature {
         ensures value { λ r. ⌜ now r ≡ op-of (sig-of (now (self .entry))) operator .name ⌝ }
         ensures short { λ r. ⌜ length (now r) ≤ 12 ⌝ }
     {
-        let at = operator as usize;
-        if at >= self.len {
-            return &[];
+        match self.operator(operator) {
+            Some(declared) => declared.name(),
+            None => &[],
         }
-        self.operators[at].name()
     }
 
     // How many arguments an operator takes, 0 where it is not declared.
@@ -46,11 +59,10 @@ impl Signature {
         ensures value { λ r. ⌜ r ≡ op-of (sig-of (now (self .entry))) operator .arity ⌝ }
         ensures few { λ r. ⌜ r ≤ 3 ⌝ }
     {
-        let at = operator as usize;
-        if at >= self.len {
-            return 0;
+        match self.operator(operator) {
+            Some(declared) => declared.arity(),
+            None => 0,
         }
-        self.operators[at].arity()
     }
 
     // The operator of a name.
@@ -72,7 +84,7 @@ impl Signature {
         if !is_name(name) {
             return Err(Undeclarable::Misspelt);
         }
-        if self.len >= 32 {
+        if self.len >= self.operators.len() {
             return Err(Undeclarable::Full);
         }
         if let Some(_) = self.find(name) {
@@ -87,14 +99,14 @@ impl Signature {
     pub fn rank(&mut self, operator: u8, arity: u8) -> bool
         ensures { λ r. ⌜ Ranks (sig-of (now (self .entry))) operator arity (sig-of (now (self .exit))) r ⌝ }
     {
-        let at = operator as usize;
-        if at >= self.len {
+        let slot = operator as usize;
+        if slot >= self.len {
             return false;
         }
         if arity > 3 {
             return false;
         }
-        self.operators[at] = self.operators[at].ranked(arity);
+        self.operators[slot] = self.operators[slot].ranked(arity);
         true
     }
 }

@@ -44,9 +44,10 @@ returns-in-Break-step c =
     let r = c .in-Some .ensures tt in
     let wrong = going-wrong sig text l p x m (c .in-Break-step .field-0 .0) g r (c .in-Break-step .ensures tt (g .state) (g .holds) (ready sig text l p x m g r)) in
     let (y, e, q) = err-from-errBy (c .from-residual .result) (c .from-residual .ensures .1) in
-    record
-    { reads = subst (λ z. Reads z (read-ticket sig text)) (sym e) (short-text sig text (omega arith) ∙ wrong ∙ ap Err (sym q))
-    ; law = ticket-law sig (declared s) text }
+    record {
+      reads = subst (λ z. Reads z (read-ticket sig text)) (sym e) (short-text sig text (omega arith) ∙ wrong ∙ ap Err (sym q));
+      law = ticket-law sig (declared s) text;
+    }
 
 pub returns : need.returns
 returns c =
@@ -56,6 +57,7 @@ returns c =
     let g = c .loop-lexeme .inv in
     let (left, still, there) = c .in-rest .ensures tt in
     let e = short-text sig text (omega arith) ∙ going-end sig text (c .loop-lexeme .lexer) (c .loop-lexeme .parser) (c .at .result) g left (c .at .ensures ∙ there) in
-    record
-    { reads = answered sig text (declared s) (read-ticket sig text) (c .finish .result) refl (subst (Finished (c .finish .result)) (sym e) (c .finish .ensures (g .state) (g .holds)))
-    ; law = ticket-law sig (declared s) text }
+    record {
+      reads = answered sig text (declared s) (read-ticket sig text) (c .finish .result) refl (subst (Finished (c .finish .result)) (sym e) (c .finish .ensures (g .state) (g .holds)));
+      law = ticket-law sig (declared s) text;
+    }

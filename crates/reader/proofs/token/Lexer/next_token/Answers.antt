@@ -40,9 +40,10 @@ returns c =
     let rest = between-to-end bs (c .width-width .result) (length bs) (omega arith) ∙ ap (λ n. drop n bs) (c .width-width .ensures) in
     let place : c .at-at .result .place + c .width-width .result ≡ c .args .self .now .place + length (token-bytes k) = omega (arith, ap (λ (a : At). a .place) (c .at-at .ensures)) in
     let line : c .at-at .result .line + c .line-ends .result ≡ c .args .self .now .line + lines k = omega (arith, ap (λ (a : At). a .line) (c .at-at .ensures)) in
-    record
-    { first = s .then-tokens ∙ ap (λ l. k ∷ tokens l) (sym rest)
-    ; part = s .its-part ∙ ap (λ l. token-bytes k ++ l) (sym rest)
-    ; some-bytes = s .some-bytes
-    ; its-place = c .at-at .ensures
-    ; behind = λ i. record { place = place i; line = line i } }
+    record {
+      first = s .then-tokens ∙ ap (λ l. k ∷ tokens l) (sym rest);
+      part = s .its-part ∙ ap (λ l. token-bytes k ++ l) (sym rest);
+      some-bytes = s .some-bytes;
+      its-place = c .at-at .ensures;
+      behind = λ i. record { place = place i; line = line i };
+    }

@@ -23,10 +23,10 @@ ghost-self c =
     let word = c .args .name .now in
     let new : Op = record { name = word; arity = 0 } in
     let e = sym (declared-push (s .operators) (s .len) (c .new .result) new (omega arith) (c .new .ensures)) in
-    (length-set (s .operators) (s .len) _ ∙ s .whole, (omega arith,
-    (subst Spelt e (spelt-push (sig-of s) word 0 (s .spelt) (sym (c .if-not-is-name .ensures tt))),
-    (subst Apart e (apart-push (sig-of s) word 0 (s .apart) (sym (c .in-rest .ensures tt))),
-    (subst Ranked e (ranked-push (sig-of s) word 0 (s .ranked) (omega arith)), tt)))))
+    let are-spelt = subst Spelt e (spelt-push (sig-of s) word 0 (s .spelt) (sym (c .if-not-is-name .ensures tt))) in
+    let are-apart = subst Apart e (apart-push (sig-of s) word 0 (s .apart) (sym (c .in-rest .ensures tt))) in
+    let are-ranked = subst Ranked e (ranked-push (sig-of s) word 0 (s .ranked) (omega arith)) in
+    (length-set (s .operators) (s .len) _ ∙ s .whole, (omega arith, (declared-count _ _ (omega (arith, length-set (s .operators) (s .len) (c .new .result))), (are-spelt, (are-apart, (are-ranked, tt))))))
 
 pub returns : need.returns
 returns c =

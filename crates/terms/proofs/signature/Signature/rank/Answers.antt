@@ -8,8 +8,8 @@ use Rattle.terms.proofs.Operators.{declared-count, declared-again}
 use Rattle.terms.proofs.Signatures.{spelt-again, apart-again, ranked-again}
 use Rattle.terms.proofs.signature.Signature.rank.Needs as need
 
-pub returns-then-at-self : need.returns-then-at-self
-returns-then-at-self c = let s = c .args .self .now in (refl, inl (omega (arith, declared-count (s .operators) (s .len) (omega arith))))
+pub returns-then-slot-self : need.returns-then-slot-self
+returns-then-slot-self c = let s = c .args .self .now in (refl, inl (omega (arith, declared-count (s .operators) (s .len) (omega arith))))
 
 pub returns-then-arity-gt3 : need.returns-then-arity-gt3
 returns-then-arity-gt3 c = (refl, inr (omega arith))
@@ -19,12 +19,11 @@ ghost-self c =
     let s = c .args .self .now in
     let f = c .args .operator in
     let n = c .args .arity in
-    let many = declared-count (s .operators) (s .len) (omega arith) in
     let e = sym (declared-again (s .operators) (s .len) (omega arith) f _ (c .ranked .result) n (omega arith) (c .ranked .ensures)) in
-    (length-set (s .operators) f _ ∙ s .whole, (omega arith,
-    (subst Spelt e (spelt-again (sig-of s) f n (omega arith) (s .spelt)),
-    (subst Apart e (apart-again (sig-of s) f n (omega arith) (s .apart)),
-    (subst Ranked e (ranked-again (sig-of s) f n (omega arith) (omega arith) (s .ranked)), tt)))))
+    let are-spelt = subst Spelt e (spelt-again (sig-of s) f n (omega arith) (s .spelt)) in
+    let are-apart = subst Apart e (apart-again (sig-of s) f n (omega arith) (s .apart)) in
+    let are-ranked = subst Ranked e (ranked-again (sig-of s) f n (omega arith) (omega arith) (s .ranked)) in
+    (length-set (s .operators) f _ ∙ s .whole, (omega arith, (declared-count _ _ (omega (arith, length-set (s .operators) f (c .ranked .result))), (are-spelt, (are-apart, (are-ranked, tt))))))
 
 pub returns : need.returns
 returns c =
