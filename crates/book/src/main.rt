@@ -10,10 +10,10 @@ use reading::fault::TextFault;
 use reading::refusal::Refusal;
 use reading::refusal::showing::RefusalDisplay;
 use reading::token::At;
+use signature::Signature;
 use std::error::AnyError;
 use std::io::BufWriter;
 use std::io::Write;
-use terms::signature::Signature;
 
 mod input;
 

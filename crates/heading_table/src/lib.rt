@@ -7,10 +7,10 @@ mod tests {
     use crate::cases::NAMES;
     use reader::heading::read_signature;
     use reading::refusal::showing::RefusalDisplay;
+    use signature::Signature;
     use std::alloc::AllocError;
     use std::alloc::Global;
     use std::test::*;
-    use terms::signature::Signature;
 
     // A text with '/' for a line end.
     fn unfold(heap: Global, text: &str) -> Result<Vec<u8>, AllocError> {

@@ -14,7 +14,7 @@ use Rattle.std.specs.declared.option.Option.{Option}
 use Rattle.std.specs.declared.option.Option.the-variants.{Some, None}
 use Rattle.std.specs.declared.result.Result.the-variants.{Ok, Err}
 use Rattle.terms.specs.Signature.{Sig, op-of}
-use Rattle.terms.specs.Declaring.{Ranks}
+use Rattle.signature.specs.Declaring.{Ranks}
 use Rattle.reading.specs.declared.token.At.{At}
 use Rattle.reading.specs.declared.heading.Stage.the-variants.{WantsName, HasCount}
 use Rattle.reading.specs.declared.fault.TextFault.the-variants.{PastLimit}

@@ -5,11 +5,11 @@ use mathlib.Core.List.{List}
 use Prim.Native.Nat.{ℕ}
 use Rattle.std.specs.declared.result.Result.{Result}
 use Rattle.std.specs.declared.result.Result.the-variants.{Ok, Err}
-use Rattle.terms.specs.declared.operator.Undeclarable.{Undeclarable}
-use Rattle.terms.specs.declared.operator.Undeclarable.the-variants.{Misspelt, Full, Twice}
-use Rattle.terms.specs.declared.signature.Signature.{Signature}
+use Rattle.signature.specs.declared.operator.Undeclarable.{Undeclarable}
+use Rattle.signature.specs.declared.operator.Undeclarable.the-variants.{Misspelt, Full, Twice}
+use Rattle.signature.specs.declared.Signature.{Signature}
 use Rattle.terms.specs.Signature.{Sig, spelt}
-use Rattle.terms.specs.Declaring.{sig-of}
+use Rattle.signature.specs.Declaring.{sig-of}
 use Rattle.reading.specs.declared.token.At.{At}
 use Rattle.reading.specs.declared.fault.TextFault.the-variants.{Unexpected, PastLimit}
 use Rattle.reading.specs.declared.fault.SheetFault.{SheetFault}

@@ -6,7 +6,7 @@ use reading::fault::SheetFault;
 use reading::fault::TextFault;
 use reading::heading::Stage;
 use reading::token::At;
-use terms::signature::Signature;
+use signature::Signature;
 
 mod stepping;
 

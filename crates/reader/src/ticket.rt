@@ -1,5 +1,5 @@
 ghost use mathlib.Core.Path.{_≡_};
-ghost use Rattle.terms.specs.Declaring.{sig-of};
+ghost use Rattle.signature.specs.Declaring.{sig-of};
 ghost use Rattle.reading.specs.Reading.{read-ticket};
 ghost use Rattle.reading.specs.Laws.{Ticket-law};
 ghost use Rattle.reader.specs.Ticket.{Reads};
@@ -7,8 +7,8 @@ use crate::parser::Parser;
 use crate::token::Lexer;
 use reading::fault::TextFault;
 use reading::token::At;
+use signature::Signature;
 use terms::layout::Layout;
-use terms::signature::Signature;
 
 // How many bytes a ticket may have.
 pub const TICKET_BYTES: usize = 4096;

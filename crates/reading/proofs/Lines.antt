@@ -12,7 +12,7 @@ use Rattle.std.proofs.shelf.Decimals.{decimal-some, decimal-digit}
 use Rattle.std.proofs.shelf.Elements.{all-weaker, all-from-getD}
 use Rattle.std.proofs.shelf.Tests.{cond-true, cond-false, and-parts, and-left, leb-true, lt-leb}
 use Rattle.terms.specs.Signature.{Op, Sig, lower, digit, word, spelt, Declared}
-use Rattle.terms.proofs.Spelling.{spelt-short}
+use Rattle.terms.proofs.Signatures.{spelt-short}
 use Rattle.reading.specs.declared.token.Mark.the-variants.{Blank, LineEnd}
 use Rattle.reading.specs.Tokens.{Tok, a-name, a-number, a-mark, token-bytes, tokens, whole}
 use Rattle.reading.specs.Heading.{line-of, heading-text}

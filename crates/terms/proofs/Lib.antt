@@ -1,7 +1,5 @@
 pub mod Lists
 pub mod Nodes
-pub mod Spelling
-pub mod Operators
 pub mod Signatures
 pub mod Readable
 pub mod Standing

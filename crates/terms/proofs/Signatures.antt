@@ -13,10 +13,10 @@ use Rattle.std.specs.Orderings.{Decides}
 use Rattle.std.specs.shelf.Text.{sameBytes}
 use Rattle.std.proofs.shelf.Equals.{sameBytes-decides}
 use Rattle.std.proofs.shelf.Lists.{drop-all, getD-append-left, getD-push, getD-set-same, getD-set-other, length-push, length-set}
-use Rattle.std.proofs.shelf.Tests.{cond-true, cond-false, cases-bool, cases-order, cases-eq, cases-lt}
+use Rattle.std.proofs.shelf.Tests.{cond-true, cond-false, cases-bool, cases-order, cases-eq, cases-lt, leb-true, and-parts}
 use Rattle.std.specs.declared.option.Option.{Option}
 use Rattle.std.specs.declared.option.Option.the-variants.{Some, None}
-use Rattle.terms.specs.Signature.{Op, Sig, op-of, spelt, Spelt, Apart, Ranked, found-from, found}
+use Rattle.terms.specs.Signature.{Op, Sig, op-of, lower, all-words, spelt, Spelt, Apart, Ranked, found-from, found}
 
 pub tested : (xs ys : List ℕ) (r : Bool) → Decides r (xs ≡ ys) → r ≡ sameBytes xs ys
 tested xs ys r h = search (needs, sameBytes-decides)
@@ -102,3 +102,8 @@ ranked-again sig f n h l a g k =
     (λ e. omega (arith, ap (λ k. op-of (again sig f n) k .arity) e, ap (λ (o : Op). o .arity) (getD-set-same sig f (record { name = op-of sig f .name; arity = n }) (record { name = []; arity = 0 }) h)))
     (λ d. omega (arith, ap (λ (o : Op). o .arity) (getD-set-other sig f g (record { name = op-of sig f .name; arity = n }) (record { name = []; arity = 0 }) d), a g (omega arith)))
     (cases-eq g f)
+
+-- a name has at most 12 bytes
+pub spelt-short : (bs : List ℕ) → spelt bs ≡ true → length bs ≤ 12
+spelt-short [] e = omega arith
+spelt-short (b ∷ bs) e = omega (arith, leb-true (length bs) 11 (and-parts (all-words bs) _ (and-parts (lower b) _ e .1) .1))

@@ -7,6 +7,4 @@ pub mod Text
 pub mod View
 pub mod Nodes
 pub mod Layout
-pub mod Operators
-pub mod Declaring
 pub mod Laws

@@ -2,8 +2,6 @@
 pub mod laws;
 pub mod layout;
 pub mod node;
-pub mod operator;
 pub mod renamed;
-pub mod signature;
 pub mod symbol;
 pub mod view;

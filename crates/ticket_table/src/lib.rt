@@ -12,10 +12,10 @@ mod tests {
     use reading::refusal::Layer;
     use reading::refusal::Refusal;
     use reading::refusal::showing::RefusalDisplay;
+    use signature::Signature;
     use std::alloc::AllocError;
     use std::alloc::Global;
     use std::test::*;
-    use terms::signature::Signature;
 
     fn declared() -> Signature {
         let mut signature = Signature::new();

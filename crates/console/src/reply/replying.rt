@@ -1,6 +1,6 @@
 ghost use mathlib.Core.Path.{_≡_};
 ghost use Rattle.std.specs.declared.option.Option.the-variants.{Some};
-ghost use Rattle.terms.specs.Declaring.{sig-of};
+ghost use Rattle.signature.specs.Declaring.{sig-of};
 ghost use Rattle.console.specs.Lines.{seen};
 ghost use Rattle.console.specs.Replies.{reply-text, answer-text, Showable, Shows};
 use super::Reply;
@@ -9,10 +9,10 @@ use reader::ticket::read_ticket;
 use reading::fault::TextFault;
 use reading::refusal::showing::RefusalDisplay;
 use reading::token::At;
+use signature::Signature;
 use std::fmt;
 use terms::layout::Layout;
 use terms::layout::laying::LayoutView;
-use terms::signature::Signature;
 use traversal::write::write_text;
 
 // The answer to a line. The buffer takes the ticket's text, written anew from the term that was read.

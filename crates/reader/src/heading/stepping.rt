@@ -1,6 +1,6 @@
 ghost use mathlib.Core.Path.{_≡_};
 ghost use mathlib.Core.List.{[]};
-ghost use Rattle.terms.specs.Declaring.{sig-of};
+ghost use Rattle.signature.specs.Declaring.{sig-of};
 ghost use Rattle.reading.specs.Tokens.{a-name, a-number};
 ghost use Rattle.reading.specs.Reading.{fault-of};
 ghost use Rattle.reading.specs.declared.fault.SheetFault.the-variants.{Text};
@@ -18,8 +18,8 @@ use reading::fault::TextFault;
 use reading::heading::Stage;
 use reading::token::At;
 use reading::token::Mark;
-use terms::operator::Undeclarable;
-use terms::signature::Signature;
+use signature::Signature;
+use signature::operator::Undeclarable;
 
 // The largest argument count.
 const LARGEST_COUNT: u32 = 3;

@@ -4,7 +4,7 @@ ghost use Rattle.std.specs.declared.option.Option.{Option};
 ghost use Rattle.std.specs.declared.option.Option.the-variants.{Some, None};
 ghost use Rattle.std.specs.declared.result.Result.the-variants.{Ok, Err};
 ghost use Rattle.terms.specs.Term.{Term, instrument, apply, nil};
-ghost use Rattle.terms.specs.Declaring.{sig-of};
+ghost use Rattle.signature.specs.Declaring.{sig-of};
 ghost use Rattle.reader.specs.Lexing.{meaning};
 ghost use Rattle.reading.specs.Reading.{Context, top, State, wants, opens, has, on-wants, on-opens, on-opens-mark, on-has, on-has-mark, needless, closed, continued, step, ending};
 ghost use lib.ListN.{length};
@@ -18,10 +18,10 @@ use crate::token::Token;
 use reading::fault::TextFault;
 use reading::token::At;
 use reading::token::Mark;
+use signature::Signature;
 use stack::Stack;
 use terms::layout::Layout;
 use terms::node::Node;
-use terms::signature::Signature;
 use terms::symbol::Symbol;
 
 // '(' behind a term: a needless one behind an operator without arguments.

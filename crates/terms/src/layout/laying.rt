@@ -52,9 +52,22 @@ impl<const N: usize> Layout<N> {
     pub fn link(&mut self, place: u16, next: u16)
         ensures { λ _. ⌜ in-use (now (self .exit)) ≡ with-next (in-use (now (self .entry))) place next ⌝ }
     {
+        let node = self.node(place);
+        let linked = Node {
+            symbol: node.symbol,
+            first: node.first,
+            next: Some(next),
+        };
+        self.store(place, linked);
+    }
+
+    // Puts a node at a place that is in use.
+    fn store(&mut self, place: u16, node: Node)
+        ensures { λ _. ⌜ in-use (now (self .exit)) ≡ set (in-use (now (self .entry))) place node ⌝ }
+    {
         let at = place as usize;
         if at < self.len {
-            self.nodes[at].next = Some(next);
+            self.nodes[at] = node;
         }
     }
 

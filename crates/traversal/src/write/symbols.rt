@@ -1,12 +1,12 @@
 ghost use Prim.Native.Nat.{_+_, _<_, _≤_, _^_};
-ghost use Rattle.terms.specs.Declaring.{sig-of};
+ghost use Rattle.signature.specs.Declaring.{sig-of};
 ghost use Rattle.traversal.specs.Bytes.{Lays};
 ghost use Rattle.traversal.specs.Pendings.{lead-text, symbol-text};
 use super::bytes::put;
 use super::bytes::put_all;
 use super::bytes::put_decimal;
 use crate::pending::Lead;
-use terms::signature::Signature;
+use signature::Signature;
 use terms::symbol::Symbol;
 
 // Writes what stands before a term.

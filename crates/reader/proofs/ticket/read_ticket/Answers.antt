@@ -2,8 +2,8 @@ use mathlib.Core.Path.{_≡_, refl, sym, ap, subst, _∙_}
 use native.Mathlib.Omega.{arith}
 use Rattle.std.proofs.shelf.Results.{err-from-errBy}
 use Rattle.std.specs.declared.result.Result.the-variants.{Ok, Err}
-use Rattle.terms.specs.Declaring.{sig-of}
-use Rattle.terms.proofs.Operators.{declared}
+use Rattle.signature.specs.Declaring.{sig-of}
+use Rattle.signature.proofs.Operators.{declared}
 use Rattle.reading.specs.Reading.{read-ticket}
 use Rattle.reader.specs.Parsing.{Finished}
 use Rattle.reading.proofs.Reading.{ticket-law}

@@ -1,5 +1,5 @@
 use lib.ListN.{length}
-use Rattle.terms.specs.Declaring.{sig-of}
+use Rattle.signature.specs.Declaring.{sig-of}
 use Rattle.reader.specs.Lexing.{what-is-left}
 use Rattle.reader.proofs.Going.{Going}
 use Rattle.reader.proofs.ticket.read_ticket.Given as given

@@ -2,7 +2,7 @@ use mathlib.Core.Path.{ap}
 use native.Mathlib.Omega.{arith}
 use Prim.Native.Nat.{ℕ}
 use lib.ListN.{length-replicate}
-use Rattle.terms.specs.Declaring.{sig-of}
+use Rattle.signature.specs.Declaring.{sig-of}
 use Rattle.stack.specs.Stack.{content}
 use Rattle.traversal.specs.Pendings.{symbol-text}
 use Rattle.traversal.proofs.Overlays.{lays-both, lays-as}

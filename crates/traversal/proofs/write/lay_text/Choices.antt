@@ -1,4 +1,4 @@
-use Rattle.terms.specs.Declaring.{sig-of}
+use Rattle.signature.specs.Declaring.{sig-of}
 use Rattle.stack.specs.Stack.{content}
 use Rattle.traversal.specs.Pendings.{Laying}
 use Rattle.traversal.proofs.write.lay_text.Given as given

@@ -1,4 +1,4 @@
-use Rattle.terms.specs.Declaring.{sig-of}
+use Rattle.signature.specs.Declaring.{sig-of}
 use Rattle.console.proofs.Replies.{showable}
 use Rattle.console.proofs.reply.replying.reply.Needs as need
 

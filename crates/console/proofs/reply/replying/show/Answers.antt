@@ -5,10 +5,10 @@ use native.Mathlib.Omega.{arith}
 use lib.Chars.{codes}
 use Rattle.std.specs.Written.{decimal}
 use Rattle.terms.specs.Term.{symbols}
-use Rattle.terms.specs.Declaring.{sig-of}
+use Rattle.signature.specs.Declaring.{sig-of}
 use Rattle.terms.specs.Nodes.{node-answers}
 use Rattle.terms.specs.Layout.{in-use}
-use Rattle.terms.proofs.Operators.{declared}
+use Rattle.signature.proofs.Operators.{declared}
 use Rattle.console.proofs.Replies.{few-symbols, written, front, utf8-text}
 use Rattle.console.proofs.reply.replying.show.Needs as need
 

@@ -1,4 +1,4 @@
-use Rattle.terms.specs.Declaring.{sig-of}
+use Rattle.signature.specs.Declaring.{sig-of}
 use Rattle.reader.proofs.Headings.{count-taken}
 use Rattle.reader.proofs.heading.Heading.take_count.Needs as need
 

@@ -1,7 +1,7 @@
 use mathlib.Core.Path.{sym, ap, _∙_}
 use native.Mathlib.Omega.{arith}
 use Rattle.std.specs.declared.option.Option.the-variants.{Some}
-use Rattle.terms.specs.Declaring.{sig-of}
+use Rattle.signature.specs.Declaring.{sig-of}
 use Rattle.traversal.specs.Pendings.{symbol-text}
 use Rattle.traversal.proofs.Overlays.{lays-both, lays-as}
 use Rattle.traversal.proofs.write.symbols.put_symbol.Needs as need
