@@ -1,4 +1,3 @@
-ghost use Prim.Native.Nat.{_≤_};
 use console::line::Line;
 use std::io;
 use std::io::Read;
@@ -12,7 +11,7 @@ pub enum Ending {
     Nothing,
 }
 
-// Standard input, a chunk at a time.
+// Standard input, a chunk at a time: the bytes from `at` to `len` are still to be read.
 #[derive(Drop)]
 pub struct Input {
     stdin: Stdin,
@@ -31,40 +30,35 @@ impl Input {
         }
     }
 
-    // The next byte, or nothing at the end of the input.
-    fn next_byte(&mut self) -> io::Result<Option<u8>> {
+    // What is left of the chunk, or the next one where nothing is left; empty at the end of the input.
+    fn rest(&mut self) -> io::Result<&[u8]> {
         if self.at >= self.len {
-            self.len = self.stdin.read(&mut self.chunk)?;
             self.at = 0;
+            self.len = self.stdin.read(&mut self.chunk)?;
         }
-        let Some(byte) = self.chunk.get(self.at).copied() else {
-            return Ok(None);
-        };
-        if self.at >= self.len {
-            return Ok(None);
-        }
-        self.at += 1;
-        Ok(Some(byte))
+        Ok(self.chunk.get(self.at..self.len).unwrap_or(&[]))
     }
-}
 
-// Collects the next line, without its end.
-pub fn read_line(input: &mut Input, line: &mut Line) -> io::Result<Ending> {
-    line.clear();
-    let mut some = false;
-    for _ in 0..u64::MAX {
-        match input.next_byte()? {
-            Some(b'\n') => return Ok(Ending::LineEnd),
-            Some(byte) => {
-                some = true;
-                line.push(byte);
+    // Collects the next line, without its end.
+    pub fn read_line(&mut self, line: &mut Line) -> io::Result<Ending> {
+        line.clear();
+        let mut some = false;
+        for _ in 0..u64::MAX {
+            let rest = self.rest()?;
+            if rest.is_empty() {
+                break;
             }
-            None => break,
+            some = true;
+            if let Some(n) = line.take(rest) {
+                self.at = self.at.saturating_add(n);
+                return Ok(Ending::LineEnd);
+            }
+            self.at = self.len;
         }
-    }
-    if some {
-        Ok(Ending::InputEnd)
-    } else {
-        Ok(Ending::Nothing)
+        if some {
+            Ok(Ending::InputEnd)
+        } else {
+            Ok(Ending::Nothing)
+        }
     }
 }

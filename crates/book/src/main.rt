@@ -4,7 +4,6 @@ use console::reply::replying::ReplyDisplay;
 use console::reply::replying::reply;
 use input::Ending;
 use input::Input;
-use input::read_line;
 use reader::heading::read_signature;
 use reading::fault::TextFault;
 use reading::refusal::Refusal;
@@ -25,7 +24,7 @@ fn read_head(
 ) -> Result<Result<Signature, Refusal>, AnyError> {
     let mut head = Vec::new(rt.alloc());
     for _ in 0..2 {
-        let ending = read_line(input, line)?;
+        let ending = input.read_line(line)?;
         let Some(text) = line.text() else {
             let fault = TextFault::PastLimit(At { place: 0, line: 0 });
             return Ok(Err(fault.refusal()));
@@ -55,7 +54,7 @@ fn run(rt: &LibcRuntime) -> Result<(), AnyError> {
     };
     let mut buffer = [0; 4096];
     for _ in 0..u64::MAX {
-        if let Ending::Nothing = read_line(&mut input, &mut line)? {
+        if let Ending::Nothing = input.read_line(&mut line)? {
             break;
         }
         let answer = reply(&signature, &line, &mut buffer);

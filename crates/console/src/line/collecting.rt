@@ -1,6 +1,6 @@
 ghost use mathlib.Core.Path.{_≡_};
 ghost use mathlib.Core.List.{[]};
-ghost use Rattle.console.specs.Lines.{seen, whole-line, one-more, Held};
+ghost use Rattle.console.specs.Lines.{seen, whole-line, one-more, Taken, Held};
 use super::LINE_BYTES;
 use super::Line;
 
@@ -27,6 +27,19 @@ impl Line {
             self.bytes[at] = byte;
             self.len = at + 1;
         }
+    }
+
+    // The bytes up to the first line end, and how many bytes that were, the line end counted; nothing where there is none.
+    pub fn take(&mut self, bytes: &[u8]) -> Option<usize>
+        ensures { λ r. ⌜ Taken (seen (now (self .entry))) (now (bytes .entry)) (seen (now (self .exit))) r ⌝ }
+    {
+        for (i, byte) in bytes.iter().enumerate() {
+            if *byte == b'\n' {
+                return Some(i + 1);
+            }
+            self.push(*byte);
+        }
+        None
     }
 
     // Back to nothing read.
