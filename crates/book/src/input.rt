@@ -30,9 +30,14 @@ impl Input {
         }
     }
 
+    // Whether the next line needs another chunk.
+    pub fn is_spent(&self) -> bool {
+        self.at >= self.len
+    }
+
     // What is left of the chunk, or the next one where nothing is left; empty at the end of the input.
     fn rest(&mut self) -> io::Result<&[u8]> {
-        if self.at >= self.len {
+        if self.is_spent() {
             self.at = 0;
             self.len = self.stdin.read(&mut self.chunk)?;
         }

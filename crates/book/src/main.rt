@@ -54,6 +54,9 @@ fn run(rt: &LibcRuntime) -> Result<(), AnyError> {
     };
     let mut buffer = [0; 4096];
     for _ in 0..u64::MAX {
+        if input.is_spent() {
+            out.flush()?;
+        }
         if let Ending::Nothing = input.read_line(&mut line)? {
             break;
         }

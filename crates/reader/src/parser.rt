@@ -1,11 +1,9 @@
+use crate::ticket::TICKET_NODES;
 use reading::token::At;
 use stack::Stack;
 use terms::layout::Layout;
 
 pub mod parsing;
-
-// How many nodes a ticket's text can ask for: each symbol takes two bytes or more, but for the last.
-pub const TICKET_NODES: usize = 2048;
 
 // An operator whose arguments are being read: its node, where its name stands, and how many arguments follow the one being read.
 #[derive(Clone, Copy)]
@@ -26,7 +24,7 @@ pub enum Phase {
 // What is read so far: the nodes in reading order, the operators whose arguments are being read, and what may come.
 #[derive(Drop)]
 pub struct Parser {
-    nodes: Layout<2048>,
-    frames: Stack<Frame, 2048>,
+    nodes: Layout<TICKET_NODES>,
+    frames: Stack<Frame, TICKET_NODES>,
     phase: Phase,
 }

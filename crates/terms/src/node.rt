@@ -7,3 +7,11 @@ pub struct Node {
     pub first: Option<u16>,
     pub next: Option<u16>,
 }
+
+impl Node {
+    pub const VACANT: Node = Node {
+        symbol: Symbol::Vacant,
+        first: None,
+        next: None,
+    };
+}

@@ -5,6 +5,7 @@ ghost use Rattle.console.specs.Lines.{seen};
 ghost use Rattle.console.specs.Replies.{reply-text, answer-text, Showable, Shows};
 use super::Reply;
 use crate::line::Line;
+use reader::ticket::TICKET_NODES;
 use reader::ticket::read_ticket;
 use reading::fault::TextFault;
 use reading::refusal::showing::RefusalDisplay;
@@ -29,7 +30,7 @@ pub fn reply<'b>(signature: &Signature, line: &Line, buffer: &'b mut [u8; 4096])
 }
 
 // The answer to the text of a ticket.
-fn show<'b>(signature: &Signature, ticket: &Layout<2048>, buffer: &'b mut [u8]) -> Reply<'b>
+fn show<'b>(signature: &Signature, ticket: &Layout<TICKET_NODES>, buffer: &'b mut [u8]) -> Reply<'b>
     requires { ⌜ Showable (sig-of (now signature)) (now ticket) (now buffer) ⌝ }
     ensures { λ r. ⌜ Shows (sig-of (now (signature .entry))) (now (ticket .entry)) r ⌝ }
 {

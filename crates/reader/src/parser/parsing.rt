@@ -14,6 +14,7 @@ use super::Parser;
 use super::Phase;
 use crate::judging::fault_of;
 use crate::number::instrument_number;
+use crate::ticket::TICKET_NODES;
 use crate::token::Token;
 use reading::fault::TextFault;
 use reading::token::At;
@@ -216,7 +217,7 @@ impl Parser {
     }
 
     // The end of the text.
-    pub fn finish(&mut self, at: At) -> Result<Layout<2048>, TextFault>
+    pub fn finish(&mut self, at: At) -> Result<Layout<TICKET_NODES>, TextFault>
         ensures { λ r. ⌜ ((s : State) → Holds (now (self .entry)) s → Finished r (ending s at)) ⌝ }
     {
         match self.phase {

@@ -15,11 +15,7 @@ impl<const N: usize> Layout<N> {
         ensures { λ r. ⌜ in-use r ≡ [] ⌝ }
     {
         Layout {
-            nodes: [Node {
-                symbol: Symbol::Vacant,
-                first: None,
-                next: None,
-            }; N],
+            nodes: [Node::VACANT; N],
             len: 0,
         }
     }
@@ -77,11 +73,7 @@ impl<const N: usize> Layout<N> {
     {
         let at = place as usize;
         if at >= self.len {
-            return Node {
-                symbol: Symbol::Vacant,
-                first: None,
-                next: None,
-            };
+            return Node::VACANT;
         }
         self.nodes[at]
     }
