@@ -1,3 +1,5 @@
+ghost use mathlib.Core.Path.{_≡_};
+ghost use lib.Dec.{leb};
 use console::line::Line;
 use std::io;
 use std::io::Read;
@@ -21,7 +23,9 @@ pub struct Input {
 }
 
 impl Input {
-    pub fn new(stdin: Stdin) -> Input {
+    pub fn new(stdin: Stdin) -> Input
+        ensures { λ r. ⌜ r .len ≡ 0 ⌝ }
+    {
         Input {
             stdin,
             chunk: [0; 65536],
@@ -31,7 +35,9 @@ impl Input {
     }
 
     // Whether the next line needs another chunk.
-    pub fn is_spent(&self) -> bool {
+    pub fn is_spent(&self) -> bool
+        ensures { λ r. ⌜ r ≡ leb (now (self .entry) .len) (now (self .entry) .at) ⌝ }
+    {
         self.at >= self.len
     }
 

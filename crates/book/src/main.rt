@@ -1,14 +1,13 @@
 // Reads names and argument counts, then a ticket a line, and answers each line.
+use console::head::open;
+use console::head::too_long;
 use console::line::Line;
 use console::reply::replying::ReplyDisplay;
 use console::reply::replying::reply;
 use input::Ending;
 use input::Input;
-use reader::heading::read_signature;
-use reading::fault::TextFault;
 use reading::refusal::Refusal;
 use reading::refusal::showing::RefusalDisplay;
-use reading::token::At;
 use signature::Signature;
 use std::error::AnyError;
 use std::io::BufWriter;
@@ -26,18 +25,14 @@ fn read_head(
     for _ in 0..2 {
         let ending = input.read_line(line)?;
         let Some(text) = line.text() else {
-            let fault = TextFault::PastLimit(At { place: 0, line: 0 });
-            return Ok(Err(fault.refusal()));
+            return Ok(Err(too_long()));
         };
         head.extend_from_slice(text)?;
         if let Ending::LineEnd = ending {
             head.push(b'\n')?;
         }
     }
-    match read_signature(head.as_slice()) {
-        Ok(signature) => Ok(Ok(signature)),
-        Err(fault) => Ok(Err(fault.refusal())),
-    }
+    Ok(open(head.as_slice()))
 }
 
 fn run(rt: &LibcRuntime) -> Result<(), AnyError> {

@@ -4,12 +4,11 @@ ghost use Rattle.signature.specs.Declaring.{sig-of};
 ghost use Rattle.console.specs.Lines.{seen};
 ghost use Rattle.console.specs.Replies.{reply-text, answer-text, Showable, Shows};
 use super::Reply;
+use crate::head::too_long;
 use crate::line::Line;
 use reader::ticket::TICKET_NODES;
 use reader::ticket::read_ticket;
-use reading::fault::TextFault;
 use reading::refusal::showing::RefusalDisplay;
-use reading::token::At;
 use signature::Signature;
 use std::fmt;
 use terms::layout::Layout;
@@ -21,7 +20,7 @@ pub fn reply<'b>(signature: &Signature, line: &Line, buffer: &'b mut [u8; 4096])
     ensures { λ r. ⌜ reply-text r ≡ answer-text (sig-of (now (signature .entry))) (seen (now (line .entry))) ⌝ }
 {
     let Some(text) = line.text() else {
-        return Reply::Refused(TextFault::PastLimit(At { place: 0, line: 0 }).refusal());
+        return Reply::Refused(too_long());
     };
     match read_ticket(signature, text) {
         Ok(ticket) => show(signature, &ticket, buffer),
