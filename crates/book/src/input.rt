@@ -50,7 +50,7 @@ impl Input {
     }
 
     // Collects the next line, without its end.
-    pub fn read_line<const N: usize>(&mut self, line: &mut Line<N>) -> io::Result<Ending> {
+    pub fn read_line(&mut self, line: &mut Line) -> io::Result<Ending> {
         line.clear();
         let mut some = false;
         for _ in 0..u64::MAX {

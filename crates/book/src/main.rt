@@ -1,40 +1,48 @@
-// Reads a sheet, then a ticket a line, and answers the sheet and each ticket.
+// Reads names and argument counts, then a ticket a line, and answers each line.
+#![tactic(auto)]
+
+use console::head::{open, too_long};
 use console::line::Line;
 use console::reply::replying::reply;
-use console::sheet::opening::{gather, open};
-use console::sheet::{Opening, SHEET_BYTES};
 use input::{Ending, Input};
-use sheet::Sheet;
+use reading::refusal::Refusal;
 use signature::Signature;
-use std::io;
-use std::io::{BufWriter, Stdout, Write};
-use weighing::Weighing;
+use std::io::{BufWriter, Write};
 
 mod input;
 
-// The text of the sheet: the lines before the line of a dot, or all of the input.
-fn gather_sheet(input: &mut Input, text: &mut Line<SHEET_BYTES>) -> io::Result<()> {
-    let mut line = Line::new();
-    for _ in 0..u64::MAX {
-        let ended = match input.read_line(&mut line)? {
-            Ending::LineEnd => true,
-            Ending::InputEnd => false,
-            Ending::Nothing => break,
+// The signature of the first two lines, or the refusal of them.
+fn read_head(
+    rt: &HostRuntime,
+    input: &mut Input,
+    line: &mut Line,
+) -> anyhow::Result<Result<Signature, Refusal>> {
+    let mut head = Vec::new(rt.alloc());
+    for _ in 0..2 {
+        let ending = input.read_line(line)?;
+        let Some(text) = line.text() else {
+            return Ok(Err(too_long()));
         };
-        if !gather(text, &line, ended) {
-            break;
+        head.extend_from_slice(text)?;
+        if let Ending::LineEnd = ending {
+            head.push(b'\n')?;
         }
     }
-    Ok(())
+    Ok(open(head.as_slice()))
 }
 
-// Answers a ticket a line to the end of the input.
-fn answer_tickets(
-    signature: &Signature,
-    input: &mut Input,
-    out: &mut BufWriter<Stdout>,
-) -> anyhow::Result<()> {
+fn run(rt: &HostRuntime) -> anyhow::Result<()> {
+    let mut out = BufWriter::new(rt.alloc(), rt.stdout())?;
+    let mut input = Input::new(rt.stdin());
     let mut line = Line::new();
+    let signature = match read_head(rt, &mut input, &mut line)? {
+        Ok(signature) => signature,
+        Err(refused) => {
+            writeln!(out, "{refused}")?;
+            out.flush()?;
+            return Ok(());
+        }
+    };
     let mut buffer = [0; 4096];
     for _ in 0..u64::MAX {
         if input.is_spent() {
@@ -43,24 +51,8 @@ fn answer_tickets(
         if let Ending::Nothing = input.read_line(&mut line)? {
             break;
         }
-        let answer = reply(signature, &line, &mut buffer);
+        let answer = reply(&signature, &line, &mut buffer);
         writeln!(out, "{answer}")?;
-    }
-    Ok(())
-}
-
-fn run(rt: &HostRuntime) -> anyhow::Result<()> {
-    let mut out = BufWriter::new(rt.alloc(), rt.stdout())?;
-    let mut input = Input::new(rt.stdin());
-    let mut text = Line::new();
-    gather_sheet(&mut input, &mut text)?;
-    let mut sheet = Sheet::new();
-    let mut first = Weighing::missing();
-    let mut second = Weighing::missing();
-    let opening = open(&text, &mut sheet, &mut first, &mut second);
-    writeln!(out, "{opening}")?;
-    if let Opening::Read { .. } = opening {
-        answer_tickets(sheet.signature(), &mut input, &mut out)?;
     }
     out.flush()?;
     Ok(())

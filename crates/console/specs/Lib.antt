@@ -1,3 +1,3 @@
 pub mod Lines
 pub mod Replies
-pub mod Sheets
+pub mod Heads

@@ -1,4 +1,6 @@
 // The lines that head a sheet, and what is read of them: a table worked out by hand.
+#![tactic(auto)]
+
 pub mod cases;
 
 #[cfg(test)]

@@ -1,43 +1,84 @@
--- One token of a sheet.
-use Rattle.std.proofs.Common.{◌≡◌, [], IsErrAnd, Ok, Err, Result, sym, refl, ap, ◌∙◌, subst}
-use Rattle.std.proofs.lemmas.Result.{err_from_is_err_and}
+-- The loop that reads a ticket.
+use Rattle.std.proofs.Common.{◌≡◌, ℕ, ◌+◌, ◌<◌, ◌≤◌, Bool, true, false, cond, leb, List, [], ◌∷◌, ◌++◌, length, Some, None, Ok, Err, Result, sym, refl, ap, ◌∙◌, subst, arith, length-append}
+use Rattle.std.proofs.lemmas.Bool.{cond-true, cond-false, le-leb, lt-leb}
+use Rattle.terms.specs.declared.layout.Layout.{Layout}
+use Rattle.terms.specs.Term.{Term}
+use Rattle.terms.specs.Signature.{Sig, Declared}
+use Rattle.terms.specs.Ticket.{Ticket}
+use Rattle.terms.specs.Layout.{in_use, LaysOut}
+use Rattle.terms.proofs.Laying.{length-laid, ticket_narrow, laid_stands}
 use Rattle.reading.specs.declared.token.At.{At}
-use Rattle.reading.specs.declared.fault.SheetFault.{SheetFault}
-use Rattle.reading.specs.Tokens.{Tok, tokens}
-use Rattle.reading.specs.Heading.{and_on}
-use Rattle.sheet_reading.specs.Sheet.{Sheet, limits}
-use Rattle.sheet_reading.specs.Reading.{Stand, sheet_step, sheet_end, sheet_run}
+use Rattle.reading.specs.declared.fault.TextFault.{TextFault}
+use Rattle.reading.specs.declared.fault.TextFault.TheVariants.{PastLimit}
+use Rattle.reading.specs.Tokens.{Tok, token_bytes, tokens, origin, past}
+use Rattle.reading.specs.Reading.{State, wants, top, step, chain, ending, run, ticket_limit, read_ticket}
+use Rattle.reading.specs.Laws.{Explained, TicketLaw}
+use Rattle.reading.proofs.Reading.{ticket_law}
 use Rattle.reader.specs.declared.token.Lexeme.{Lexeme}
 use Rattle.reader.specs.declared.token.Lexer.{Lexer}
+use Rattle.reader.specs.declared.parser.Parser.{Parser}
 use Rattle.reader.specs.Lexing.{meaning, what_is_left, now_at, ReadToken}
-use Rattle.reader.specs.Going.{rest_read, token_read, Went}
-use Rattle.reader.specs.Expecting.{Next, GoesOn}
+use Rattle.reader.specs.Parsing.{Holds, Sparse, Stepped, Finished}
+use Rattle.reader.specs.Ticket.{LaidTicket, Reads}
+use Rattle.reader.proofs.Sparse.{sparse_step}
 
--- the rest of a text is its first token and what is behind it
-pub first_read : (s : Stand) (l : Lexer) (x : Lexeme) (m : Lexer) → ReadToken l x m → rest_read s l ≡ token_read s x m
-first_read s l x m r =
-    let k : Tok = meaning x.token in
-    ap (sheet_run limits s (now_at l)) r.first ∙ sym (λ i. and_on (sheet_step limits s (r.its_place i) k) (λ u. sheet_run limits u (r.behind i) (tokens (what_is_left m))))
+-- the parser holds a state from which the rest of the text is read as the whole text is
+pub record Going (sig : Sig) (text : List ℕ) (l : Lexer) (p : Parser) : Type 0 where
+  pub state : State
+  pub holds : Holds p state
+  pub sparse : Sparse state l.place
+  pub within : l.place + length (what_is_left l) ≤ 4096
+  pub same : run sig state (now_at l) (tokens (what_is_left l)) ≡ run sig (wants top) origin (tokens text)
 
--- a token that is accepted
-pub token_on : (s u : Stand) (x : Lexeme) (m : Lexer) → sheet_step limits s x.at (meaning x.token) ≡ Ok u → token_read s x m ≡ rest_read u m
-token_on s u x m e = ap (λ o. and_on o (λ v. rest_read v m)) e
+-- a token leaves less of the text
+pub less_left : (l m : Lexer) (x : Lexeme) → ReadToken l x m → length (what_is_left m) < length (what_is_left l)
+less_left l m x r = omega (arith, r.some_bytes, ap length r.part, length-append (token_bytes (meaning x.token)) (what_is_left m))
 
--- a token that is refused
-pub token_wrong : (s : Stand) (x : Lexeme) (m : Lexer) (f : SheetFault) → sheet_step limits s x.at (meaning x.token) ≡ Err f → token_read s x m ≡ Err f
-token_wrong s x m f e = ap (λ o. and_on o (λ v. rest_read v m)) e
+module _ (sig : Sig) (text : List ℕ) where
+  pub ready : (l : Lexer) (p : Parser) (x : Lexeme) (m : Lexer) → (g : Going sig text l p) → ReadToken l x m → Sparse g.state x.at.place × (x.at.place < 4096)
+  ready l p x m g r =
+      let here : x.at.place ≡ l.place = ap (λ (a : At). a.place) r.its_place in
+      (subst (Sparse g.state) (sym here) g.sparse, omega (arith, less_left l m x r, g.within))
 
--- the end of the text
-pub end_read : (s : Stand) (l : Lexer) (a : At) → what_is_left l ≡ [] → a ≡ now_at l → rest_read s l ≡ sheet_end s a
-end_read s l a e q = ap (λ bs. sheet_run limits s (now_at l) (tokens bs)) e ∙ ap (sheet_end s) (sym q)
+  -- one token on
+  pub going_on : (l : Lexer) (p : Parser) (x : Lexeme) (m : Lexer) (q : Parser) (g : Going sig text l p) → ReadToken l x m → Stepped (Ok tt) (step sig g.state x.at (meaning x.token)) q → Going sig text m q
+  going_on l p x m q g r (s, e, h) =
+      let k : Tok = meaning x.token in
+      let here : step sig g.state (now_at l) k ≡ Ok s = ap (λ a. step sig g.state a k) (sym r.its_place) ∙ e in
+      let place : m.place ≡ l.place + length (token_bytes k) = ap (λ (a : At). a.place) r.behind in
+      record {
+        state = s;
+        holds = h;
+        sparse = subst (Sparse s) (sym place) (sparse_step sig (now_at l) l.place (length (token_bytes k)) r.some_bytes k g.state s g.sparse here);
+        within = omega (arith, ap length r.part, length-append (token_bytes k) (what_is_left m), g.within);
+        same =
+            ap (λ a. run sig s a (tokens (what_is_left m))) r.behind
+            ∙ sym (ap (run sig g.state (now_at l)) r.first ∙ ap (λ o. chain o (λ s'. run sig s' (past (now_at l) k) (tokens (what_is_left m)))) here)
+            ∙ g.same;
+      }
 
--- the fault is handed on
-pub went_wrong : {A : Type 0} (r : Result A SheetFault) (o : Result Sheet SheetFault) (P : A → Type 0) (f : SheetFault) → IsErrAnd r (λ y. y ≡ f) → o ≡ Err f → Went r o P
-went_wrong r o P f by e =
-    let (y, q, s) = err_from_is_err_and r by in
-    subst (λ z. Went z o P) (sym q) (e ∙ ap Err (sym s))
+  -- the refused token
+  pub going_wrong : (l : Lexer) (p : Parser) (x : Lexeme) (m : Lexer) (f : TextFault) (g : Going sig text l p) → ReadToken l x m → step sig g.state x.at (meaning x.token) ≡ Err f → run sig (wants top) origin (tokens text) ≡ Err f
+  going_wrong l p x m f g r e =
+      let k : Tok = meaning x.token in
+      let here : step sig g.state (now_at l) k ≡ Err f = ap (λ a. step sig g.state a k) (sym r.its_place) ∙ e in
+      sym g.same ∙ ap (run sig g.state (now_at l)) r.first ∙ ap (λ o. chain o (λ s'. run sig s' (past (now_at l) k) (tokens (what_is_left m)))) here
 
--- the next token, where a sheet does not end
-pub next_went : (r : Result Lexeme SheetFault) (o : Result Sheet SheetFault) (s : Stand) (l m : Lexer) → GoesOn s → Next l r m → o ≡ rest_read s l → Went r o (λ x. o ≡ token_read s x m)
-next_went (Ok x) o s l m on n e = e ∙ first_read s l x m n
-next_went (Err f) o s l m on (left, is) e = e ∙ end_read s l (now_at l) left refl ∙ on (now_at l) ∙ ap Err (sym is)
+  -- the end of the text
+  pub going_end : (l : Lexer) (p : Parser) (a : At) (g : Going sig text l p) → what_is_left l ≡ [] → a ≡ now_at l → run sig (wants top) origin (tokens text) ≡ ending g.state a
+  going_end l p a g e q = sym g.same ∙ ap (λ bs. run sig g.state (now_at l) (tokens bs)) e ∙ ap (ending g.state) (sym q)
+
+  pub short_text : length text ≤ 4096 → read_ticket sig text ≡ run sig (wants top) origin (tokens text)
+  unfolding read_ticket ticket_limit
+  short_text h = cond-true _ _ _ (le-leb (length text) 4096 h)
+
+  pub long_text : 4096 < length text → read_ticket sig text ≡ Err (PastLimit origin)
+  unfolding read_ticket ticket_limit
+  long_text h = cond-false _ _ _ (lt-leb (length text) 4096 h)
+
+  -- what is answered at the end is what the definition gives
+  pub answered : Declared sig → (o : Result Term TextFault) (r : Result (Layout 2048) TextFault) → read_ticket sig text ≡ o → Finished r o → Reads r o
+  answered d o (Ok l) e (t, g, laid) =
+      let told : Explained sig text (Ok t) = subst (Explained sig text) (e ∙ g) (ticket_law sig d text).explained in
+      record { ticket = t; given = g; in_order = laid; stands = laid_stands (in_use l) t (ticket_narrow sig d t told.0) laid; counted = ap length laid ∙ length-laid 0 None t }
+  answered d o (Err f) e h = h

@@ -3,8 +3,5 @@ pub mod Values
 pub mod Stacks
 pub mod Parsing
 pub mod Sparse
-pub mod TicketLoop
 pub mod Going
 pub mod Headings
-pub mod Lines
-pub mod Sheets

@@ -1,12 +1,38 @@
+ghost use Rattle.reading.specs.Heading.{read_heading};
+ghost use Rattle.reading.specs.HeadingLaw.{HeadingLaw};
+ghost use Rattle.reader.specs.Heading.{Heads};
+
+use crate::token::Lexer;
+use reading::fault::{SheetFault, TextFault};
 use reading::heading::Stage;
+use reading::token::At;
 use signature::Signature;
 
-pub mod lines;
 mod stepping;
+
+// How many bytes a sheet may have.
+pub const SHEET_BYTES: usize = 32768;
 
 // What is read so far of the lines that head a sheet: the operators, and what may come.
 #[derive(Clone, Copy)]
 struct Heading {
     signature: Signature,
     stage: Stage,
+}
+
+// The signature that the two lines at the head of a sheet declare, or what is wrong with them.
+// `reads`: it is just what the definition gives. `law`: the definition gives a signature exactly if the text is its heading.
+pub fn read_signature(text: &[u8]) -> Result<Signature, SheetFault>
+    ensures reads { Heads result (read_heading text.now) }
+    ensures law { HeadingLaw text.now }
+{
+    if text.len() > SHEET_BYTES {
+        return Err(SheetFault::Text(TextFault::PastLimit(At { place: 0, line: 0 })));
+    }
+    let mut lexer = Lexer::new(text);
+    let mut heading = Heading::new();
+    while let Some(lexeme) = lexer.next_token() {
+        heading.step(lexeme.token, lexeme.at)?;
+    }
+    heading.finish(lexer.at())
 }

@@ -1,12 +1,10 @@
 ghost use Rattle.std.specs.Prelude.{◌≡◌};
 ghost use Rattle.reader.specs.Lexing.{meaning};
 ghost use Rattle.reading.specs.Reading.{fault_of};
-ghost use Rattle.reading.specs.declared.fault.SheetFault.TheVariants.{Text};
-ghost use Rattle.reading.specs.declared.fault.TextFault.TheVariants.{Unexpected};
 
 use crate::number::{instrument_number, is_plain};
 use crate::token::Token;
-use reading::fault::{SheetFault, TextFault};
+use reading::fault::TextFault;
 use reading::token::At;
 
 // The fault of a token that is refused with `fault`: what is wrong with the token by itself goes first.
@@ -28,11 +26,4 @@ pub fn fault_of(token: Token, at: At, fault: TextFault) -> TextFault
         },
         _ => fault,
     }
-}
-
-// The fault of a token that a sheet does not allow here.
-pub fn not_here(token: Token, at: At) -> SheetFault
-    ensures { result ≡ Text (fault_of (meaning token.entry) at (Unexpected at)) }
-{
-    SheetFault::Text(fault_of(token, at, TextFault::Unexpected(at)))
 }

@@ -1,12 +1,10 @@
-// Texts read: tickets and sheets.
-mod expecting;
-mod heading;
+// Texts read: tickets, and the two lines that head a sheet.
+#![tactic(auto)]
+
+pub mod heading;
 mod judging;
 mod lexer;
 mod number;
 mod parser;
-mod rule;
-pub mod sheet;
 pub mod ticket;
 mod token;
-mod weighings;

@@ -6,19 +6,20 @@ use Rattle.terms.specs.Ticket.{Ticket, Tickets}
 use Rattle.terms.specs.Text.{text_of}
 use Rattle.reading.specs.declared.token.At.{At}
 use Rattle.reading.specs.declared.token.Mark.TheVariants.{Opening, Closing, Comma}
+use Rattle.reading.specs.declared.fault.TextFault.{TextFault}
 use Rattle.reading.specs.Tokens.{Tok, a_name, a_mark, tokens, past}
 use Rattle.reading.specs.Reading.{Context, within, State, wants, opens, has, and_then, named, with_name, with_number, chain}
 use Rattle.reading.specs.Laws.{further_arguments, arguments_so_far}
 use Rattle.reading.proofs.Digits.{numbered_decimal}
 use Rattle.reading.proofs.Names.{found_name}
-use Rattle.reading.proofs.Lexing.{closing, tokens_ticket}
+use Rattle.reading.proofs.Lexing.{closing, tokens_term}
 use Rattle.reading.proofs.Running.{reach, passed, reach_join}
 
-abbrev pub join : Terms → Terms → Terms
+abbrev join : Terms → Terms → Terms
 join nil us = us
 join (cons t ts) us = cons t (join ts us)
 
-pub join_then : (us : Terms) (u : Term) (ts : Terms) → join (and_then us u) ts ≡ join us (cons u ts)
+join_then : (us : Terms) (u : Term) (ts : Terms) → join (and_then us u) ts ≡ join us (cons u ts)
 join_then nil u ts = refl
 join_then (cons v us) u ts = ap (cons v) (join_then us u ts)
 
@@ -26,7 +27,7 @@ join_nil : (us : Terms) → join us nil ≡ us
 join_nil nil = refl
 join_nil (cons u us) = ap (cons u) (join_nil us)
 
-pub then_join : (us : Terms) (u : Term) → and_then us u ≡ join us (cons u nil)
+then_join : (us : Terms) (u : Term) → and_then us u ≡ join us (cons u nil)
 then_join us u = sym (join_nil (and_then us u)) ∙ join_then us u nil
 
 -- some tokens are read as the term, whatever it stands in
@@ -34,7 +35,7 @@ abbrev Reads : Sig → List Tok → Term → Type 0
 Reads sig ks t = (k : Context) (at : At) → (m : Option At) × (reach sig (wants k) at ks ≡ Ok (has t m k))
 
 -- a run comes to the last of these arguments of f, with n to follow
-abbrev pub Leads : {E : Type 0} → Result State E → ℕ → At → ℕ → Context → Terms → Type 0
+abbrev pub Leads : Result State TextFault → ℕ → At → ℕ → Context → Terms → Type 0
 Leads r f a n k ts = (us : Terms) × (u : Term) × (m : Option At) × (and_then us u ≡ ts) × (r ≡ Ok (has u m (within f a us n k)))
 
 -- further arguments are read on
@@ -64,13 +65,13 @@ module _ {sig : Sig} (good : Declared sig) where
     pub reads : (t : Term) → Ticket sig t → Reads sig (tokens (text_of sig t)) t
     reads (variable x) h k at = absurd h
     reads (instrument n) h k at =
-        (None, ap (reach sig (wants k) at) (tokens_ticket good (instrument n) h) ∙ ap (λ o. chain (with_number o at k) (λ s. Ok s)) (numbered_decimal 999999 n (omega arith) h))
+        (None, ap (reach sig (wants k) at) (tokens_term good (instrument n) h) ∙ ap (λ o. chain (with_number o at k) (λ s. Ok s)) (numbered_decimal 999999 n (omega arith) h))
     reads (apply f ts) h k at =
         let w : Tok = a_name (op_of sig f).name in
         let ks : List Tok = arguments_so_far sig ts ++ closing ts in
         let (m, e) = reads_arguments ts h.2 f at k (past at w) in (
           m,
-          ap (reach sig (wants k) at) (tokens_ticket good (apply f ts) h)
+          ap (reach sig (wants k) at) (tokens_term good (apply f ts) h)
               ∙ ap (λ r. chain r (λ s. reach sig s (past at w) ks)) (name_step f h.0 k at)
               ∙ ap (λ n. reach sig (named f n at k) (past at w) ks) (sym h.1) ∙ e,
         )

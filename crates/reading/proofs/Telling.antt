@@ -1,11 +1,10 @@
 -- Each token that is accepted is one more of the tokens read.
 use Rattle.std.proofs.Common.{◌≡◌, ℕ, zero, suc, ◌+◌, ◌<◌, List, [], ◌∷◌, ◌++◌, length, Some, None, Ok, Err, Option, Result, sym, refl, ap, ◌∙◌, subst, append_assoc, append-nil, arith, length-append}
 use Rattle.std.specs.List.{AllByRecursion as All}
-use Rattle.terms.specs.Term.{Term, instrument, apply, Terms, nil}
+use Rattle.terms.specs.Term.{Term, instrument, apply, nil}
 use Rattle.terms.specs.Signature.{Sig, op_of, found, Declared}
-use Rattle.terms.specs.Ticket.{TermOf, Ticket}
+use Rattle.terms.specs.Ticket.{Ticket}
 use Rattle.terms.specs.Text.{text_of}
-use Rattle.terms.proofs.Readable.{ticket_term}
 use Rattle.reading.specs.declared.token.At.{At}
 use Rattle.reading.specs.declared.token.Mark.{Mark}
 use Rattle.reading.specs.declared.token.Mark.TheVariants.{Opening, Closing, Comma, Equals, Dash, Blank, LineEnd}
@@ -17,17 +16,17 @@ use Rattle.reading.specs.Laws.{Behind, arguments_so_far}
 use Rattle.reading.proofs.Digits.{instrument_is}
 use Rattle.reading.proofs.Names.{found_is}
 use Rattle.reading.proofs.Tokens.{Lexed}
-use Rattle.reading.proofs.Lexing.{tokens_term, tokens_ticket}
+use Rattle.reading.proofs.Lexing.{tokens_term}
 use Rattle.reading.proofs.Equal.{same_ok}
 use Rattle.reading.proofs.Running.{reach, passed, reach_first}
 use Rattle.reading.proofs.States.{name_of, stack_tokens, state_tokens, arguments_then, awaiting_then, closing_then, ContextGood, Good, frame_next, frame_full}
 
 -- places
 
-pub same_at : {x y m n : ℕ} → x ≡ y → m ≡ n → ◌≡◌ {A = At} (record { place = x; line = m }) (record { place = y; line = n })
+same_at : {x y m n : ℕ} → x ≡ y → m ≡ n → ◌≡◌ {A = At} (record { place = x; line = m }) (record { place = y; line = n })
 same_at p q = cc
 
-pub length_whole : (ks : List Tok) (k : Tok) → length (whole (ks ++ (k ∷ []))) ≡ length (whole ks) + length (token_bytes k)
+length_whole : (ks : List Tok) (k : Tok) → length (whole (ks ++ (k ∷ []))) ≡ length (whole ks) + length (token_bytes k)
 length_whole [] k = omega (arith, length-append (token_bytes k) [])
 length_whole (j ∷ ks) k = omega (arith, length-append (token_bytes j) (whole (ks ++ (k ∷ []))), length-append (token_bytes j) (whole ks), length_whole ks k)
 
@@ -38,28 +37,8 @@ Keeps sig s k (Ok s') = Good sig s' × (state_tokens sig s' ≡ state_tokens sig
 Keeps sig s k (Err f) = Unit {0}
 
 module _ {sig : Sig} (good : Declared sig) where
-  -- the tokens behind a name, and behind each mark of arguments
-
-  pub name_alone : (f : ℕ) → f < length sig → 0 ≡ (op_of sig f).arity → tokens (text_of sig (apply f nil)) ≡ name_of sig f ∷ []
+  name_alone : (f : ℕ) → f < length sig → 0 ≡ (op_of sig f).arity → tokens (text_of sig (apply f nil)) ≡ name_of sig f ∷ []
   name_alone f h e = tokens_term good (apply f nil) (h, e, tt)
-
-  pub tokens_opened : (f : ℕ) (a : At) (n : ℕ) (k : Context) → state_tokens sig (wants (within f a nil n k)) ≡ state_tokens sig (opens f a n k) ++ (a_mark Opening ∷ [])
-  tokens_opened f a n k = sym (append_assoc (stack_tokens sig k) (name_of sig f ∷ []) (a_mark Opening ∷ []))
-
-  pub tokens_closed : (f : ℕ) (a : At) (ts : Terms) (t : Term) (m : Option At) (k : Context) → TermOf sig (apply f (and_then ts t))
-      → state_tokens sig (has (apply f (and_then ts t)) None k) ≡ state_tokens sig (has t m (within f a ts zero k)) ++ (a_mark Closing ∷ [])
-  tokens_closed f a ts t m k h =
-      ap (λ l. stack_tokens sig k ++ l) (tokens_term good (apply f (and_then ts t)) h)
-      ∙ ap (λ l. stack_tokens sig k ++ (name_of sig f ∷ (arguments_so_far sig (and_then ts t) ++ l))) (closing_then ts t)
-      ∙ ap (λ l. stack_tokens sig k ++ (name_of sig f ∷ (l ++ (a_mark Closing ∷ [])))) (arguments_then sig ts t) ∙ simp append_assoc
-
-  pub tokens_continued : (f : ℕ) (a : At) (ts : Terms) (t : Term) (m : Option At) (n : ℕ) (k : Context)
-      → state_tokens sig (wants (within f a (and_then ts t) n k)) ≡ state_tokens sig (has t m (within f a ts (suc n) k)) ++ (a_mark Comma ∷ [])
-  tokens_continued f a ts t m n k =
-      ap (λ l. stack_tokens sig k ++ (name_of sig f ∷ l)) (awaiting_then sig ts t)
-      ∙ ap (λ l. stack_tokens sig k ++ (name_of sig f ∷ (l ++ (a_mark Comma ∷ [])))) (arguments_then sig ts t) ∙ simp append_assoc
-
-  -- each step
 
   named_keeps : (k : Context) (f n : ℕ) (at : At) → ContextGood sig k → Behind (stack_tokens sig k) at → f < length sig → n ≡ (op_of sig f).arity → Keeps sig (wants k) (name_of sig f) (Ok (named f n at k))
   named_keeps k f zero at g p h e = (((h, e, tt), g, (f, refl, p)), ap (λ l. stack_tokens sig k ++ l) (name_alone f h e), refl)
@@ -75,14 +54,16 @@ module _ {sig : Sig} (good : Declared sig) where
   number_keeps k s at None e l g = tt
   number_keeps k s at (Some n) e l g =
       let (q, h) = instrument_is s n l e in
-      ((h, g, tt), ap (λ x. stack_tokens sig k ++ x) (tokens_ticket good (instrument n) h ∙ ap (λ x. an_instrument x ∷ []) (sym q)), refl)
+      ((h, g, tt), ap (λ x. stack_tokens sig k ++ x) (tokens_term good (instrument n) h ∙ ap (λ x. an_instrument x ∷ []) (sym q)), refl)
 
   closed_keeps : (t : Term) (m : Option At) (k : Context) (at : At) → Good sig (has t m k) → Keeps sig (has t m k) (a_mark Closing) (closed t k at)
   closed_keeps t m top at g = tt
   closed_keeps t m (within f a ts zero k) at g =
       let h : Ticket sig (apply f (and_then ts t)) = frame_full t g.1.0 g.0 in (
         (h, g.1.1, tt),
-        tokens_closed f a ts t m k (ticket_term sig (apply f (and_then ts t)) h),
+        ap (λ l. stack_tokens sig k ++ l) (tokens_term good (apply f (and_then ts t)) h)
+            ∙ ap (λ l. stack_tokens sig k ++ (name_of sig f ∷ (arguments_so_far sig (and_then ts t) ++ l))) (closing_then ts t)
+            ∙ ap (λ l. stack_tokens sig k ++ (name_of sig f ∷ (l ++ (a_mark Closing ∷ [])))) (arguments_then sig ts t) ∙ simp append_assoc,
         refl,
       )
   closed_keeps t m (within f a ts (suc n) k) at g = tt
@@ -92,12 +73,13 @@ module _ {sig : Sig} (good : Declared sig) where
   continued_keeps t m (within f a ts zero k) at g = tt
   continued_keeps t m (within f a ts (suc n) k) at g = (
     (frame_next t g.1.0 g.0, g.1.1),
-    tokens_continued f a ts t m n k,
+    ap (λ l. stack_tokens sig k ++ (name_of sig f ∷ l)) (awaiting_then sig ts t)
+        ∙ ap (λ l. stack_tokens sig k ++ (name_of sig f ∷ (l ++ (a_mark Comma ∷ [])))) (arguments_then sig ts t) ∙ simp append_assoc,
     refl,
   )
 
   mark_opens : (m : Mark) (f : ℕ) (a : At) (n : ℕ) (k : Context) → Good sig (opens f a n k) → Keeps sig (opens f a n k) (a_mark m) (on_opens_mark m f a n k)
-  mark_opens Opening f a n k g = (g, tokens_opened f a n k, refl)
+  mark_opens Opening f a n k g = (g, sym (append_assoc (stack_tokens sig k) (name_of sig f ∷ []) (a_mark Opening ∷ [])), refl)
   mark_opens Closing f a n k g = tt
   mark_opens Comma f a n k g = tt
   mark_opens Equals f a n k g = tt

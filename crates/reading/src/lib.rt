@@ -1,4 +1,6 @@
 // What reading a text is: tokens, faults, refusals, and the laws of reading a ticket.
+#![tactic(auto)]
+
 pub mod fault;
 pub mod heading;
 pub mod laws;

@@ -1,4 +1,6 @@
 // A sheet as a value: the operators, the rules, and whether it is admitted.
+#![tactic(auto)]
+
 ghost use Rattle.std.specs.Prelude.{◌≡◌, ◌≤◌, true, length, take};
 ghost use Rattle.signature.specs.Declaring.{sig_of};
 ghost use Rattle.sheet.specs.Admissible.{Admissible};

@@ -1,4 +1,6 @@
 // A signature as a value: declared operators with their names and arities.
+#![tactic(auto)]
+
 ghost use Rattle.std.specs.Prelude.{◌≡◌, ◌≤◌, length, take};
 ghost use Rattle.terms.specs.Signature.{Spelt, Apart, Ranked};
 ghost use Rattle.signature.specs.Operators.{ops_from};

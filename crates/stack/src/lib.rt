@@ -1,4 +1,6 @@
 // A stack of items in an array.
+#![tactic(auto)]
+
 ghost use Rattle.std.specs.Prelude.{◌≡◌, ◌≤◌, length};
 
 mod stacking;

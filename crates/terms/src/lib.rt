@@ -1,4 +1,6 @@
 // Terms, tickets and their text; the nodes that hold terms, and views of them.
+#![tactic(auto)]
+
 pub mod laws;
 pub mod layout;
 pub mod node;

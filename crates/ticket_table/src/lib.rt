@@ -1,4 +1,6 @@
 // Tickets as text, and the answers to them: a table worked out by hand.
+#![tactic(auto)]
+
 pub mod cases;
 
 #[cfg(test)]

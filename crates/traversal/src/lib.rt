@@ -1,4 +1,6 @@
 // Loops over the terms of any view, with a stack of places: counting symbols and writing text.
+#![tactic(auto)]
+
 pub mod count;
 mod pending;
 pub mod unwritten;

@@ -1,4 +1,6 @@
 // A weighing: a base and three factors for each operator, none outside its range.
+#![tactic(auto)]
+
 ghost use Rattle.std.specs.Prelude.{◌≡◌, ℕ, ◌≤◌, length, Some, None, slice_index_or};
 
 mod entries;

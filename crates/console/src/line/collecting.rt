@@ -1,15 +1,15 @@
 ghost use Rattle.std.specs.Prelude.{◌≡◌, []};
-ghost use Rattle.console.specs.Lines.{seen, whole_line, one_more, more, joined, Taken, Held};
+ghost use Rattle.console.specs.Lines.{seen, whole_line, one_more, Taken, Held};
 
-use super::Line;
+use super::{LINE_BYTES, Line};
 
-impl<const N: usize> Line<N> {
+impl Line {
     // With nothing read.
-    pub fn new() -> Line<N>
+    pub fn new() -> Line
         ensures { seen result ≡ whole_line [] }
     {
         Line {
-            bytes: [0; N],
+            bytes: [0; 4200],
             len: 0,
             overlong: false,
         }
@@ -17,10 +17,10 @@ impl<const N: usize> Line<N> {
 
     // One byte more.
     pub fn push(&mut self, byte: u8)
-        ensures { seen self.new ≡ one_more N (seen self.old) byte }
+        ensures { seen self.new ≡ one_more (seen self.old) byte }
     {
         let at = self.len;
-        if at >= N {
+        if at >= LINE_BYTES {
             self.overlong = true;
         } else {
             self.bytes[at] = byte;
@@ -28,28 +28,9 @@ impl<const N: usize> Line<N> {
         }
     }
 
-    // So many bytes more.
-    pub fn extend(&mut self, bytes: &[u8])
-        ensures { seen self.new ≡ more N (seen self.old) bytes.now }
-    {
-        for byte in bytes {
-            self.push(*byte);
-        }
-    }
-
-    // What another line holds, behind what this one does.
-    pub fn append(&mut self, line: &Line<N>)
-        ensures { seen self.new ≡ joined N (seen self.old) (seen line.now) }
-    {
-        match line.text() {
-            Some(bytes) => self.extend(bytes),
-            None => self.overlong = true,
-        }
-    }
-
     // The bytes up to the first line end, and how many bytes that were, the line end counted; nothing where there is none.
     pub fn take(&mut self, bytes: &[u8]) -> Option<usize>
-        ensures { Taken N (seen self.old) bytes.now (seen self.new) result }
+        ensures { Taken (seen self.old) bytes.now (seen self.new) result }
     {
         for (i, byte) in bytes.iter().enumerate() {
             if *byte == b'\n' {
@@ -75,7 +56,6 @@ impl<const N: usize> Line<N> {
         if self.overlong {
             return None;
         }
-        let all = &self.bytes[..];
-        Some(&all[0..self.len])
+        Some(&self.bytes[0..self.len])
     }
 }

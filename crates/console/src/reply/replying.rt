@@ -4,8 +4,8 @@ ghost use Rattle.console.specs.Lines.{seen};
 ghost use Rattle.console.specs.Replies.{reply_text, answer_text, Showable, Shows};
 
 use super::Reply;
-use crate::line::{LINE_BYTES, Line};
-use crate::sheet::opening::too_long;
+use crate::head::too_long;
+use crate::line::Line;
 use reader::ticket::{TICKET_NODES, read_ticket};
 use signature::Signature;
 use std::fmt;
@@ -13,11 +13,7 @@ use terms::layout::Layout;
 use traversal::write::write_text;
 
 // The answer to a line. The buffer takes the ticket's text, written anew from the term that was read.
-pub fn reply<'b>(
-    signature: &Signature,
-    line: &Line<LINE_BYTES>,
-    buffer: &'b mut [u8; 4096],
-) -> Reply<'b>
+pub fn reply<'b>(signature: &Signature, line: &Line, buffer: &'b mut [u8; 4096]) -> Reply<'b>
     ensures { reply_text result ≡ answer_text (sig_of signature.now) (seen line.now) }
 {
     let Some(text) = line.text() else {

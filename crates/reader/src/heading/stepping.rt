@@ -1,13 +1,16 @@
 ghost use Rattle.std.specs.Prelude.{◌≡◌, []};
 ghost use Rattle.signature.specs.Declaring.{sig_of};
 ghost use Rattle.reading.specs.Tokens.{a_name, a_number};
+ghost use Rattle.reading.specs.Reading.{fault_of};
+ghost use Rattle.reading.specs.declared.fault.SheetFault.TheVariants.{Text};
+ghost use Rattle.reading.specs.declared.fault.TextFault.TheVariants.{Unexpected};
 ghost use Rattle.reading.specs.declared.heading.Stage.TheVariants.{WantsName};
-ghost use Rattle.reading.specs.Heading.{wants_name, has_name_mark, has_name, wants_count, has_count_mark, has_count, head_step};
+ghost use Rattle.reading.specs.Heading.{wants_name, has_name_mark, has_name, wants_count, has_count_mark, has_count, head_step, head_end};
 ghost use Rattle.reader.specs.Lexing.{meaning};
-ghost use Rattle.reader.specs.Heading.{head_of, Headed, NameSpelt, why_not};
+ghost use Rattle.reader.specs.Heading.{head_of, Headed, NameSpelt, why_not, Heads};
 
 use super::Heading;
-use crate::judging::not_here;
+use crate::judging::fault_of;
 use crate::number::number;
 use crate::token::Token;
 use reading::fault::{SheetFault, TextFault};
@@ -18,6 +21,13 @@ use signature::operator::Undeclarable;
 
 // The largest argument count.
 const LARGEST_COUNT: u32 = 3;
+
+// The fault of a token that is not allowed here.
+fn not_here(token: Token, at: At) -> SheetFault
+    ensures { result ≡ Text (fault_of (meaning token.entry) at (Unexpected at)) }
+{
+    SheetFault::Text(fault_of(token, at, TextFault::Unexpected(at)))
+}
 
 // The fault of a name that is not declared. No token is a name that is misspelt.
 fn name_fault(why: Undeclarable, at: At) -> SheetFault
@@ -43,7 +53,7 @@ impl Heading {
 
     // A name, where one may come.
     fn take_name(&mut self, name: &[u8], at: At) -> Result<(), SheetFault>
-        ensures { NameSpelt (a_name name.now) → Headed result (wants_name 32 (a_name name.now) (sig_of self.old.signature) at) (head_of self.new) }
+        ensures { NameSpelt (a_name name.now) → Headed result (wants_name (a_name name.now) (sig_of self.old.signature) at) (head_of self.new) }
     {
         match self.signature.declare(name) {
             Ok(()) => {
@@ -56,7 +66,7 @@ impl Heading {
 
     // Where a name must stand.
     fn want_name(&mut self, token: Token, at: At) -> Result<(), SheetFault>
-        ensures { NameSpelt (meaning token.entry) → Headed result (wants_name 32 (meaning token.entry) (sig_of self.old.signature) at) (head_of self.new) }
+        ensures { NameSpelt (meaning token.entry) → Headed result (wants_name (meaning token.entry) (sig_of self.old.signature) at) (head_of self.new) }
     {
         match token {
             Token::Name(name) => self.take_name(name, at),
@@ -143,7 +153,7 @@ impl Heading {
 
     // One token.
     pub fn step(&mut self, token: Token, at: At) -> Result<(), SheetFault>
-        ensures { NameSpelt (meaning token.entry) → Headed result (head_step 32 (head_of self.old) at (meaning token.entry)) (head_of self.new) }
+        ensures { NameSpelt (meaning token.entry) → Headed result (head_step (head_of self.old) at (meaning token.entry)) (head_of self.new) }
     {
         match self.stage {
             Stage::WantsName => self.want_name(token, at),
@@ -151,6 +161,16 @@ impl Heading {
             Stage::WantsCount(operator) => self.want_count(operator, token, at),
             Stage::HasCount(operator) => self.follow_count(operator, token, at),
             Stage::Done => Err(not_here(token, at)),
+        }
+    }
+
+    // The end of the text.
+    pub fn finish(&self, at: At) -> Result<Signature, SheetFault>
+        ensures { Heads result (head_end (head_of self.now) at) }
+    {
+        match self.stage {
+            Stage::Done => Ok(self.signature),
+            _ => Err(SheetFault::Text(TextFault::Unexpected(at))),
         }
     }
 }

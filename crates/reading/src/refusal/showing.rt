@@ -30,9 +30,6 @@ impl SheetFault {
         match *self {
             SheetFault::Text(fault) => fault.refusal(),
             SheetFault::Repeated(at) => placed(7, Layer::Sheet, at),
-            SheetFault::Headless(at) => placed(8, Layer::Sheet, at),
-            SheetFault::Doubled(at) => placed(9, Layer::Sheet, at),
-            SheetFault::Unbound(at) => placed(10, Layer::Sheet, at),
         }
     }
 }

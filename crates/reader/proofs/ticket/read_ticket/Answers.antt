@@ -6,7 +6,7 @@ use Rattle.reading.specs.Reading.{read_ticket}
 use Rattle.reader.specs.Parsing.{Finished}
 use Rattle.reading.proofs.Reading.{ticket_law}
 use Rattle.reader.specs.Ticket.{Reads}
-use Rattle.reader.proofs.TicketLoop.{Going, less_left, ready, going_on, going_wrong, going_end, short_text, long_text, answered}
+use Rattle.reader.proofs.Going.{Going, less_left, ready, going_on, going_wrong, going_end, short_text, long_text, answered}
 use Rattle.reader.proofs.ticket.read_ticket.Goals as goal
 
 pub returns-then-text-gt-TICKET-BYTES : goal.returns-then-text-gt-TICKET-BYTES

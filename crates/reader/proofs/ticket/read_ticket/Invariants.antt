@@ -1,7 +1,7 @@
 use Rattle.std.proofs.Common.{length}
 use Rattle.signature.specs.Declaring.{sig_of}
 use Rattle.reader.specs.Lexing.{what_is_left}
-use Rattle.reader.proofs.TicketLoop.{Going}
+use Rattle.reader.proofs.Going.{Going}
 use Rattle.reader.proofs.ticket.read_ticket.Given as goal
 
 abbrev pub invariant-loop-lexeme : goal.invariant-loop-lexeme

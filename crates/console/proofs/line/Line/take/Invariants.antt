@@ -3,4 +3,4 @@ use Rattle.console.proofs.Lines.{Going}
 use Rattle.console.proofs.line.Line.take.Given as goal
 
 abbrev pub invariant-loop-i : goal.invariant-loop-i
-invariant-loop-i g l = Going g.row.N (seen l.initial.self) l.bytes l.i (seen l.self)
+invariant-loop-i l = Going (seen l.initial.self) l.bytes l.i (seen l.self)
