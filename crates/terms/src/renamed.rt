@@ -14,8 +14,8 @@ pub struct Renamed<'v, V> {
 impl<'v, V: TermView> Renamed<'v, V> {
     // At its places stand the renamed terms of the view below, and no others.
     pub fn over(inner: &'v V) -> Renamed<'v, V>
-        ensures answers { answers result.inner.now ≡ answers inner.now }
-        ensures terms { RenamedStand (answers inner.now) }
+        ensures answers { V.answers result.inner.now ≡ V.answers inner.now }
+        ensures terms { RenamedStand (V.answers inner.now) }
     {
         Renamed { inner }
     }

@@ -19,22 +19,22 @@ loop-lexeme-preserved c =
     let x = c.in-Some.lexeme in
     let m = c.next-token.new.self in
     let r = c.in-Some.ensures in
-    reads_on c.args.text.now l (head_of c.loop-lexeme.heading) x m (head_of c.step.new.self) r c.loop-lexeme.invariant (c.in-ok-step.ensures (read_spelt l m x r))
+    reads_on c.args.text.now l (head_of c.loop-lexeme.heading) x m (head_of c.step.new.self) r c.loop-lexeme.invariant (c.in_ok-step.ensures (read_spelt l m x r))
 
-pub returns-in-err-step : goal.returns-in-err-step
-returns-in-err-step c =
+pub returns-in_err-step : goal.returns-in_err-step
+returns-in_err-step c =
     let text = c.args.text.now in
     let l = c.loop-lexeme.lexer in
     let x = c.in-Some.lexeme in
     let m = c.next-token.new.self in
     let r = c.in-Some.ensures in
-    let wrong = reads_wrong text l (head_of c.loop-lexeme.heading) x m c.in-err-step.field-0.0 r c.loop-lexeme.invariant (c.in-err-step.ensures (read_spelt l m x r)) in
+    let wrong = reads_wrong text l (head_of c.loop-lexeme.heading) x m c.in_err-step.field-0.0 r c.loop-lexeme.invariant (c.in_err-step.ensures (read_spelt l m x r)) in
     let (y, e, q) = err_from_is_err_and c.from-residual.result c.from-residual.ensures.1 in
     record { reads = subst (λ z. Heads z (read_heading text)) (sym e) (short_sheet text (omega arith) ∙ wrong ∙ ap Err (sym q)); law = heading_law text }
 
 pub returns : goal.returns
 returns c =
     let text = c.args.text.now in
-    let (left, still, there) = c.in-default.ensures in
+    let (left, still, there) = c.in_default.ensures in
     let e = short_sheet text (omega arith) ∙ reads_end text c.loop-lexeme.lexer (head_of c.loop-lexeme.heading) c.at.result c.loop-lexeme.invariant left (c.at.ensures ∙ there) in
     record { reads = subst (Heads c.finish.result) (sym e) c.finish.ensures; law = heading_law text }

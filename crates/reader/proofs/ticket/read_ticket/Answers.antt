@@ -27,10 +27,10 @@ loop-lexeme-preserved c =
     let m = c.next-token.new.self in
     let g = c.loop-lexeme.invariant in
     let r = c.in-Some.ensures in
-    going_on sig text l p x m c.step.new.self g r (c.in-ok-step.ensures g.state g.holds (ready sig text l p x m g r))
+    going_on sig text l p x m c.step.new.self g r (c.in_ok-step.ensures g.state g.holds (ready sig text l p x m g r))
 
-pub returns-in-err-step : goal.returns-in-err-step
-returns-in-err-step c =
+pub returns-in_err-step : goal.returns-in_err-step
+returns-in_err-step c =
     let s = c.args.signature.now in
     let sig = sig_of s in
     let text = c.args.text.now in
@@ -40,7 +40,7 @@ returns-in-err-step c =
     let m = c.next-token.new.self in
     let g = c.loop-lexeme.invariant in
     let r = c.in-Some.ensures in
-    let wrong = going_wrong sig text l p x m c.in-err-step.field-0.0 g r (c.in-err-step.ensures g.state g.holds (ready sig text l p x m g r)) in
+    let wrong = going_wrong sig text l p x m c.in_err-step.field-0.0 g r (c.in_err-step.ensures g.state g.holds (ready sig text l p x m g r)) in
     let (y, e, q) = err_from_is_err_and c.from-residual.result c.from-residual.ensures.1 in
     record {
       reads = subst (λ z. Reads z (read_ticket sig text)) (sym e) (short_text sig text (omega arith) ∙ wrong ∙ ap Err (sym q));
@@ -53,7 +53,7 @@ returns c =
     let sig = sig_of s in
     let text = c.args.text.now in
     let g = c.loop-lexeme.invariant in
-    let (left, still, there) = c.in-default.ensures in
+    let (left, still, there) = c.in_default.ensures in
     let e = short_text sig text (omega arith) ∙ going_end sig text c.loop-lexeme.lexer c.loop-lexeme.parser c.at.result g left (c.at.ensures ∙ there) in
     record {
       reads = answered sig text (declared s) (read_ticket sig text) c.finish.result refl (subst (Finished c.finish.result) (sym e) (c.finish.ensures g.state g.holds));

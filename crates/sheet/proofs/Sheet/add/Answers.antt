@@ -6,8 +6,8 @@ use Rattle.sheet.specs.Sheet.{operators_of, rules_of}
 use Rattle.sheet.proofs.Rules.{rules_count, rules_push, lawful_push}
 use Rattle.sheet.proofs.Sheet.add.Goals as goal
 
-pub invariant-of-self : goal.invariant-of-self
-invariant-of-self c =
+pub invariant_of-self : goal.invariant_of-self
+invariant_of-self c =
     let s = c.args.self.now in
     let e = sym (rules_push s.rules s.len c.new.result _ (omega arith) c.new.ensures) in
     let all = subst (Lawful (operators_of s)) e (lawful_push (operators_of s) (rules_of s) _ s.lawful c.requires.lawful) in

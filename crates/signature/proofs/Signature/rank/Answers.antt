@@ -8,8 +8,8 @@ use Rattle.signature.proofs.Signature.rank.Goals as goal
 pub returns-then-slot-self : goal.returns-then-slot-self
 returns-then-slot-self c = let s = c.args.self.now in (refl, inl (omega (arith, declared_count s.operators s.len (omega arith))))
 
-pub invariant-of-self : goal.invariant-of-self
-invariant-of-self c =
+pub invariant_of-self : goal.invariant_of-self
+invariant_of-self c =
     let s = c.args.self.now in
     let f = c.args.operator in
     let n = c.args.arity in

@@ -20,4 +20,4 @@ loop-top-preserved g c =
     one_more _ c.args.place c.loop-top.n c.in-Some.top _ _ _ c.in-Some.ensures c.if-n-ge-MOST.false c.loop-top.invariant c.if-not-visit.ensures
 
 pub returns : goal.returns
-returns g c = counted _ c.args.place c.loop-top.n _ c.in-default.ensures c.loop-top.invariant
+returns g c = counted _ c.args.place c.loop-top.n _ c.in_default.ensures c.loop-top.invariant

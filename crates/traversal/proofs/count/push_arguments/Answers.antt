@@ -5,10 +5,10 @@ use Rattle.traversal.proofs.Rows.{row_one, row_two, row_three}
 use Rattle.traversal.proofs.Visits.{no_room, put_first, put_short}
 use Rattle.traversal.proofs.count.push_arguments.Goals as goal
 
-pub returns-in-default-argument : goal.returns-in-default-argument
-returns-in-default-argument g c =
+pub returns-in_default-argument : goal.returns-in_default-argument
+returns-in_default-argument g c =
     let v = g.V.TermView.answers c.args.view.now in
-    let row = row_one v c.args.place c.in-Some.first c.in-Some.ensures.place c.in-default-argument.ensures.place in
+    let row = row_one v c.args.place c.in-Some.first c.in-Some.ensures.place c.in_default-argument.ensures.place in
     record {
       row = put_first c.push.result (row_of v c.args.place) [] (content c.args.stack.now) (content c.args.stack.now) (content c.push.new.self) c.in-Some.first row refl c.push.ensures;
       few = c.argument.ensures.few 3 (omega arith);
@@ -17,18 +17,18 @@ returns-in-default-argument g c =
 pub returns-then-push : goal.returns-then-push
 returns-then-push g c =
     let v = g.V.TermView.answers c.args.view.now in
-    let row = row_two v c.args.place c.in-Some.first c.in-Some-argument.second c.in-Some.ensures.place c.in-Some-argument.ensures.place c.in-default-argument-2.ensures.place in
+    let row = row_two v c.args.place c.in-Some.first c.in-Some-argument.second c.in-Some.ensures.place c.in-Some-argument.ensures.place c.in_default-argument-2.ensures.place in
     record {
-      row = put_first c.push-then-push.result (row_of v c.args.place) (c.in-Some-argument.second ∷ []) (content c.args.stack.now) (content c.push-in-default-argument-2.new.self) (content c.push-then-push.new.self) c.in-Some.first row c.if-push.ensures c.push-then-push.ensures;
+      row = put_first c.push-then-push.result (row_of v c.args.place) (c.in-Some-argument.second ∷ []) (content c.args.stack.now) (content c.push-in_default-argument-2.new.self) (content c.push-then-push.new.self) c.in-Some.first row c.if-push.ensures c.push-then-push.ensures;
       few = c.argument.ensures.few 3 (omega arith);
     }
 
 pub returns-else-push : goal.returns-else-push
 returns-else-push g c =
     let v = g.V.TermView.answers c.args.view.now in
-    let row = ap length (row_two v c.args.place c.in-Some.first c.in-Some-argument.second c.in-Some.ensures.place c.in-Some-argument.ensures.place c.in-default-argument-2.ensures.place) in
+    let row = ap length (row_two v c.args.place c.in-Some.first c.in-Some-argument.second c.in-Some.ensures.place c.in-Some-argument.ensures.place c.in_default-argument-2.ensures.place) in
     record {
-      row = put_short c.push-in-default-argument-2.result (row_of v c.args.place) [] (content c.args.stack.now) (content c.args.stack.now) (content c.push-in-default-argument-2.new.self) c.if-push.false (omega arith) refl c.if-push.ensures.1;
+      row = put_short c.push-in_default-argument-2.result (row_of v c.args.place) [] (content c.args.stack.now) (content c.args.stack.now) (content c.push-in_default-argument-2.new.self) c.if-push.false (omega arith) refl c.if-push.ensures.1;
       few = c.argument.ensures.few 3 (omega arith);
     }
 

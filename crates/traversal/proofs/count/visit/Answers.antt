@@ -2,10 +2,10 @@ use Rattle.std.proofs.Common.{Some, sym, ap, ◌∙◌, arith}
 use Rattle.traversal.proofs.Visits.{visited_operator, visited_bare, visited_none, no_symbol, no_vacant}
 use Rattle.traversal.proofs.count.visit.Goals as goal
 
-pub returns-in-default : goal.returns-in-default
-returns-in-default g c =
+pub returns-in_default : goal.returns-in_default
+returns-in_default g c =
     let v = g.V.TermView.answers c.args.view.now in
-    visited_none v c.args.place _ (no_symbol v c.args.place (sym c.in-default.ensures))
+    visited_none v c.args.place _ (no_symbol v c.args.place (sym c.in_default.ensures))
 
 pub returns-in-Vacant : goal.returns-in-Vacant
 returns-in-Vacant g c =

@@ -8,9 +8,9 @@ pub loop-k-init : goal.loop-k-init
 loop-k-init g c =
     laying_start _ _ c.args.place c.args.n _ _ (first_put c.push.result 16384 _ _ _ (omega arith) c.new-stack.ensures c.push.ensures ∙ ap (λ (x : Pending). x ∷ []) c.new-root.ensures)
 
-pub returns-in-default : goal.returns-in-default
-returns-in-default g c = λ t h.
-    absurd (laying_some _ _ c.args.place c.args.n c.loop-k.-k _ _ _ c.loop-k.at c.requires (omega arith) c.in-default.ensures c.loop-k.invariant)
+pub returns-in_default : goal.returns-in_default
+returns-in_default g c = λ t h.
+    absurd (laying_some _ _ c.args.place c.args.n c.loop-k.-k _ _ _ c.loop-k.at c.requires (omega arith) c.in_default.ensures c.loop-k.invariant)
 
 pub lay-symbol-at-requires : goal.lay-symbol-at-requires
 lay-symbol-at-requires g c =

@@ -11,13 +11,13 @@ pub unreachable-requires : goal.unreachable-requires
 unreachable-requires c =
     let h = c.requires in
     let l = c.len-symbols.ensures in
-    written (sig_of c.args.signature.now) (node_answers (in_use c.args.ticket.now)) c.args.buffer.now c.write-text.new.buffer h.ticket h.stands (few_symbols _ (omega arith)) h.fits c.in-default.field-0 c.in-default.ensures
+    written (sig_of c.args.signature.now) (node_answers (in_use c.args.ticket.now)) c.args.buffer.now c.write-text.new.buffer h.ticket h.stands (few_symbols _ (omega arith)) h.fits c.in_default.field-0 c.in_default.ensures
 
-pub unreachable-requires-in-default-from-utf8 : goal.unreachable-requires-in-default-from-utf8
-unreachable-requires-in-default-from-utf8 c =
+pub unreachable-requires-in_default-from-utf8 : goal.unreachable-requires-in_default-from-utf8
+unreachable-requires-in_default-from-utf8 c =
     let h = c.requires in
     let s = c.args.signature.now in
-    c.in-default-from-utf8.ensures.cases.0
+    c.in_default-from-utf8.ensures.cases.0
     (utf8_text (sig_of s) (declared s) h.ticket h.is_ticket _ (front (sig_of s) (node_answers (in_use c.args.ticket.now)) c.args.buffer.now c.write-text.new.buffer h.ticket h.stands c.in-Ok.n c.in-Ok.ensures))
 
 pub returns : goal.returns

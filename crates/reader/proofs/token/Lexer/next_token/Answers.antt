@@ -6,20 +6,20 @@ use Rattle.reader.specs.Lexing.{meaning}
 use Rattle.reading.proofs.Tokens.{Steps, tokens_step}
 use Rattle.reader.proofs.token.Lexer.next_token.Goals as goal
 
-pub slice-bounds-self-count : goal.slice-bounds-self-count
-slice-bounds-self-count c = let s = tokens_step c.args.self.now.rest.now (meaning c.in-Some.token) c.in-Some.ensures in omega arith
+pub slice_bounds-self-count : goal.slice_bounds-self-count
+slice_bounds-self-count c = let s = tokens_step c.args.self.now.rest.now (meaning c.in-Some.token) c.in-Some.ensures in omega arith
 
-pub slice-bounds-self-start : goal.slice-bounds-self-start
-slice-bounds-self-start c =
+pub slice_bounds-self-start : goal.slice_bounds-self-start
+slice_bounds-self-start c =
     let s = tokens_step c.args.self.now.rest.now (meaning c.in-Some.token) c.in-Some.ensures in
     let h : c.width-width.result ≤ length c.args.self.now.rest.now = omega arith in
     search rules
 
-pub overflow-add-self : goal.overflow-add-self
-overflow-add-self c = let at = ap (λ (a : At). a.place) c.at-at.ensures in let s = tokens_step c.args.self.now.rest.now (meaning c.in-Some.token) c.in-Some.ensures in omega (arith, c.args.self.now.fits)
+pub overflow_add-self : goal.overflow_add-self
+overflow_add-self c = let at = ap (λ (a : At). a.place) c.at-at.ensures in let s = tokens_step c.args.self.now.rest.now (meaning c.in-Some.token) c.in-Some.ensures in omega (arith, c.args.self.now.fits)
 
-pub invariant-of-self : goal.invariant-of-self
-invariant-of-self c =
+pub invariant_of-self : goal.invariant_of-self
+invariant_of-self c =
     let place = ap (λ (a : At). a.place) c.at-at.ensures in
     let line = ap (λ (a : At). a.line) c.at-at.ensures in
     let bs = c.args.self.now.rest.now in

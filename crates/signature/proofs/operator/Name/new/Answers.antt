@@ -3,8 +3,8 @@ use Rattle.std.proofs.lemmas.List.{places, take_at}
 use Rattle.std.proofs.lemmas.Slice.{overwrites}
 use Rattle.signature.proofs.operator.Name.new.Goals as goal
 
-pub invariant-of-result : goal.invariant-of-result
-invariant-of-result c = (search (rules, places), (search rules, tt))
+pub invariant_of-result : goal.invariant_of-result
+invariant_of-result c = (search (rules, places), (search rules, tt))
 
 pub returns : goal.returns
 returns c = take_at c.copy-from-slice.new.self _ _ (ap length c.copy-from-slice.ensures.after) ∙ c.copy-from-slice.ensures.after

@@ -9,8 +9,8 @@ use Rattle.traversal.proofs.write.bytes.put_decimal.Goals as goal
 pub loop-left-init : goal.loop-left-init
 loop-left-init c = (refl, omega arith, length-digits_of-le 10 9 (c.args.n / 10) (omega arith) (omega arith), last_digit c.args.n (omega arith))
 
-pub overflow-sub-first : goal.overflow-sub-first
-overflow-sub-first c = omega (arith, length-digits_of_step 10 c.loop-left.left (omega arith) (omega arith))
+pub overflow_sub-first : goal.overflow_sub-first
+overflow_sub-first c = omega (arith, length-digits_of_step 10 c.loop-left.left (omega arith) (omega arith))
 
 pub loop-left-preserved : goal.loop-left-preserved
 loop-left-preserved c =
