@@ -1,13 +1,12 @@
 -- A term that is laid out in reading order stands at the place of its first node.
-use Rattle.std.proofs.Common.{◌≡◌, ℕ, zero, suc, ◌+◌, ◌<◌, ◌≤◌, ◌⊎◌, List, [], ◌∷◌, ◌++◌, length, get_or, Some, None, Option, sym, refl, ap, ◌∙◌, subst, inl, inr, ⊎_elim, append_assoc, append-nil, arith, length-append}
+use Rattle.std.proofs.Common.{◌≡◌, ℕ, zero, suc, ◌+◌, ◌<◌, ◌≤◌, List, [], ◌∷◌, ◌++◌, length, get_or, Some, None, Option, sym, refl, ap, ◌∙◌, ⊎_elim, append_assoc, append-nil, arith, length-append}
 use Rattle.std.proofs.lemmas.List.{get_or_at, get_or-append_right}
 use Rattle.std.proofs.lemmas.Bool.{cases_lt}
-use Rattle.terms.specs.declared.symbol.Symbol.TheVariants.{Variable, Instrument, Operator}
 use Rattle.terms.specs.declared.node.Node.{Node}
 use Rattle.terms.specs.Term.{Term, variable, instrument, apply, Terms, nil, cons, how_many, symbols, symbols_in}
-use Rattle.terms.specs.Signature.{Sig, op_of, Declared}
+use Rattle.terms.specs.Signature.{Sig, Declared}
 use Rattle.terms.specs.Ticket.{Ticket, Tickets}
-use Rattle.terms.specs.View.{Answers, Stands, StandFrom}
+use Rattle.terms.specs.View.{Stands, StandFrom}
 use Rattle.terms.specs.Nodes.{vacant, told, along, node_answers, start, laid, laid_row}
 use Rattle.terms.proofs.Nodes.{argument_within, argument_past}
 

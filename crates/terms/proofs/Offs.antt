@@ -1,6 +1,5 @@
 -- What is read off a view is the term that stands there.
-use Rattle.std.proofs.Common.{◌≡◌, ℕ, zero, suc, ◌*◌, ◌<◌, ◌≤◌, Some, None, refl, ap, ◌∙◌, arith}
-use Rattle.terms.specs.declared.symbol.Symbol.TheVariants.{Vacant, Variable, Instrument, Operator}
+use Rattle.std.proofs.Common.{◌≡◌, ℕ, zero, suc, ◌*◌, ◌<◌, ◌≤◌, ap, ◌∙◌, arith}
 use Rattle.terms.specs.Term.{Term, variable, instrument, apply, Terms, nil, cons, symbols, symbols_in}
 use Rattle.terms.specs.View.{Answers, Stands, StandFrom}
 use Rattle.terms.specs.Off.{term_with, row_with, read_off, arguments_off}

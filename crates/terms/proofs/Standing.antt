@@ -1,9 +1,9 @@
 -- Terms that stand at the places of a view.
-use Rattle.std.proofs.Common.{◌≡◌, ℕ, zero, suc, ◌+◌, ◌%◌, Some, None, Option, sym, refl, ap, ◌∙◌, subst, arith}
+use Rattle.std.proofs.Common.{◌≡◌, ℕ, suc, ◌+◌, ◌%◌, Some, None, Option, refl, ap, subst, arith}
 use Rattle.terms.specs.declared.symbol.Symbol.{Symbol}
 use Rattle.terms.specs.declared.symbol.Symbol.TheVariants.{Vacant, Variable, Instrument, Operator}
 use Rattle.terms.specs.Term.{Term, variable, instrument, apply, Terms, nil, cons}
-use Rattle.terms.specs.Substitution.{fill, fill_all, renamed}
+use Rattle.terms.specs.Substitution.{fill_all, renamed}
 use Rattle.terms.specs.View.{Answers, Stands, StandFrom, renamed_symbol, renamed_answers}
 use Rattle.terms.specs.Laws.{OneAtAPlace, RenamedStand}
 

@@ -1,5 +1,5 @@
 -- The terms of a signature, and its tickets.
-use Rattle.std.specs.Prelude.{◌≡◌, ℕ, ◌<◌, ◌≤◌, length}
+use Rattle.std.specs.Prelude.{◌≡◌, ◌<◌, ◌≤◌, length}
 use Rattle.terms.specs.Term.{Term, variable, instrument, apply, Terms, nil, cons, how_many}
 use Rattle.terms.specs.Signature.{Sig, op_of}
 

@@ -1,4 +1,4 @@
-use Rattle.std.proofs.Common.{◌≡◌, ◌+◌, ◌-◌, None, sym, ap, ◌∙◌, arith}
+use Rattle.std.proofs.Common.{◌≡◌, ◌+◌, ◌-◌, sym, ap, ◌∙◌, arith}
 use Rattle.terms.specs.Nodes.{along}
 use Rattle.terms.specs.Layout.{in_use}
 use Rattle.terms.proofs.Nodes.{along_none, along_more}

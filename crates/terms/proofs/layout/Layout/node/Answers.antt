@@ -1,4 +1,4 @@
-use Rattle.std.proofs.Common.{◌≡◌, length, get_or, take, sym, ap, ◌∙◌, arith, length-take}
+use Rattle.std.proofs.Common.{take, sym, arith, length-take}
 use Rattle.std.proofs.lemmas.List.{get_or-take, get_or_past}
 use Rattle.terms.specs.Nodes.{vacant}
 use Rattle.terms.proofs.layout.Layout.node.Goals as goal
