@@ -7,17 +7,17 @@ use Rattle.reader.proofs.Going.{less_left}
 use Rattle.reader.proofs.Headings.{read_spelt, reads_on, reads_wrong, reads_end, short_sheet, long_sheet}
 use Rattle.reader.proofs.heading.read_signature.Goals as goal
 
-pub returns-then-text-gt-SHEET-BYTES : goal.returns-then-text-gt-SHEET-BYTES
-returns-then-text-gt-SHEET-BYTES c = record { reads = long_sheet c.args.text.now (omega arith); law = heading_law c.args.text.now }
+pub returns-then-text-gt-SHEET_BYTES : goal.returns-then-text-gt-SHEET_BYTES
+returns-then-text-gt-SHEET_BYTES c = record { reads = long_sheet c.args.text.now (omega arith); law = heading_law c.args.text.now }
 
 pub loop-lexeme-smaller : goal.loop-lexeme-smaller
-loop-lexeme-smaller c = less_left c.loop-lexeme.lexer c.next-token.new.self c.in-Some.lexeme c.in-Some.ensures
+loop-lexeme-smaller c = less_left c.loop-lexeme.lexer c.next_token.new.self c.in-Some.lexeme c.in-Some.ensures
 
 pub loop-lexeme-preserved : goal.loop-lexeme-preserved
 loop-lexeme-preserved c =
     let l = c.loop-lexeme.lexer in
     let x = c.in-Some.lexeme in
-    let m = c.next-token.new.self in
+    let m = c.next_token.new.self in
     let r = c.in-Some.ensures in
     reads_on c.args.text.now l (head_of c.loop-lexeme.heading) x m (head_of c.step.new.self) r c.loop-lexeme.invariant (c.in_ok-step.ensures (read_spelt l m x r))
 
@@ -26,7 +26,7 @@ returns-in_err-step c =
     let text = c.args.text.now in
     let l = c.loop-lexeme.lexer in
     let x = c.in-Some.lexeme in
-    let m = c.next-token.new.self in
+    let m = c.next_token.new.self in
     let r = c.in-Some.ensures in
     let wrong = reads_wrong text l (head_of c.loop-lexeme.heading) x m c.in_err-step.field-0.0 r c.loop-lexeme.invariant (c.in_err-step.ensures (read_spelt l m x r)) in
     let (y, e, q) = err_from_is_err_and c.from-residual.result c.from-residual.ensures.1 in

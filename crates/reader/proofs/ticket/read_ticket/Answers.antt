@@ -9,13 +9,13 @@ use Rattle.reader.specs.Ticket.{Reads}
 use Rattle.reader.proofs.Going.{Going, less_left, ready, going_on, going_wrong, going_end, short_text, long_text, answered}
 use Rattle.reader.proofs.ticket.read_ticket.Goals as goal
 
-pub returns-then-text-gt-TICKET-BYTES : goal.returns-then-text-gt-TICKET-BYTES
-returns-then-text-gt-TICKET-BYTES c =
+pub returns-then-text-gt-TICKET_BYTES : goal.returns-then-text-gt-TICKET_BYTES
+returns-then-text-gt-TICKET_BYTES c =
     let s = c.args.signature.now in
     record { reads = long_text (sig_of s) c.args.text.now (omega arith); law = ticket_law (sig_of s) (declared s) c.args.text.now }
 
 pub loop-lexeme-smaller : goal.loop-lexeme-smaller
-loop-lexeme-smaller c = less_left c.loop-lexeme.lexer c.next-token.new.self c.in-Some.lexeme c.in-Some.ensures
+loop-lexeme-smaller c = less_left c.loop-lexeme.lexer c.next_token.new.self c.in-Some.lexeme c.in-Some.ensures
 
 pub loop-lexeme-preserved : goal.loop-lexeme-preserved
 loop-lexeme-preserved c =
@@ -24,7 +24,7 @@ loop-lexeme-preserved c =
     let l = c.loop-lexeme.lexer in
     let p = c.loop-lexeme.parser in
     let x = c.in-Some.lexeme in
-    let m = c.next-token.new.self in
+    let m = c.next_token.new.self in
     let g = c.loop-lexeme.invariant in
     let r = c.in-Some.ensures in
     going_on sig text l p x m c.step.new.self g r (c.in_ok-step.ensures g.state g.holds (ready sig text l p x m g r))
@@ -37,7 +37,7 @@ returns-in_err-step c =
     let l = c.loop-lexeme.lexer in
     let p = c.loop-lexeme.parser in
     let x = c.in-Some.lexeme in
-    let m = c.next-token.new.self in
+    let m = c.next_token.new.self in
     let g = c.loop-lexeme.invariant in
     let r = c.in-Some.ensures in
     let wrong = going_wrong sig text l p x m c.in_err-step.field-0.0 g r (c.in_err-step.ensures g.state g.holds (ready sig text l p x m g r)) in

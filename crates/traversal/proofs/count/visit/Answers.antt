@@ -15,9 +15,9 @@ returns-in-Vacant g c =
 pub returns-in-Variable : goal.returns-in-Variable
 returns-in-Variable g c =
     let v = g.V.TermView.answers c.args.view.now in
-    visited_bare c.is-none.result c.argument.result v c.args.place c.in-Some.symbol _ (sym c.in-Some.ensures) c.in-Variable.is (c.argument.ensures.few 3 (omega arith)) c.argument.ensures.place c.is-none.ensures
+    visited_bare c.is_none.result c.argument.result v c.args.place c.in-Some.symbol _ (sym c.in-Some.ensures) c.in-Variable.is (c.argument.ensures.few 3 (omega arith)) c.argument.ensures.place c.is_none.ensures
 
 pub returns-in-Operator : goal.returns-in-Operator
 returns-in-Operator g c =
     let v = g.V.TermView.answers c.args.view.now in
-    visited_operator c.push-arguments.result v c.args.place c.in-Operator.field-0 _ _ (sym c.in-Some.ensures ∙ ap Some c.in-Operator.is) c.push-arguments.ensures.few c.push-arguments.ensures.row
+    visited_operator c.push_arguments.result v c.args.place c.in-Operator.field-0 _ _ (sym c.in-Some.ensures ∙ ap Some c.in-Operator.is) c.push_arguments.ensures.few c.push_arguments.ensures.row

@@ -4,4 +4,4 @@ use Rattle.traversal.proofs.write.write_text.Goals as goal
 
 pub returns : goal.returns
 returns g c =
-    written _ _ c.args.place c.in-Some.n c.lay-text-len.result c.lay-text.result _ _ _ c.in-Some.ensures c.lay-text-len.ensures c.lay-text.ensures (omega arith)
+    written _ _ c.args.place c.in-Some.n c.lay_text-len.result c.lay_text.result _ _ _ c.in-Some.ensures c.lay_text-len.ensures c.lay_text.ensures (omega arith)

@@ -7,5 +7,5 @@ returns-then-not-push c = λ t m k h r e. absurd (omega (arith, c.if-not-push.en
 
 pub returns : goal.returns
 returns c = λ t m k h r e.
-    let fell = c.in-Some-checked-sub.ensures in
-    continue_holds c.args.self.now c.link.new.self c.pop.new.self c.push.new.self c.in-Some.frame c.args.at c.args.root c.in-Some-checked-sub.left c.len-next.result t m k h e c.in-Some.ensures (omega arith) c.len-next.ensures.value c.link.ensures c.if-not-push.ensures
+    let fell = c.in-Some-checked_sub.ensures in
+    continue_holds c.args.self.now c.link.new.self c.pop.new.self c.push.new.self c.in-Some.frame c.args.at c.args.root c.in-Some-checked_sub.left c.len-next.result t m k h e c.in-Some.ensures (omega arith) c.len-next.ensures.value c.link.ensures c.if-not-push.ensures

@@ -34,7 +34,7 @@ returns c =
     let s = tokens_step bs k c.in-Some.ensures in
     let rest = between_to_end bs c.width-width.result (length bs) (omega arith) ∙ ap (λ n. drop n bs) c.width-width.ensures in
     let place : c.at-at.result.place + c.width-width.result ≡ c.args.self.now.place + length (token_bytes k) = omega (arith, ap (λ (a : At). a.place) c.at-at.ensures) in
-    let line : c.at-at.result.line + c.line-ends.result ≡ c.args.self.now.line + lines k = omega (arith, ap (λ (a : At). a.line) c.at-at.ensures) in
+    let line : c.at-at.result.line + c.line_ends.result ≡ c.args.self.now.line + lines k = omega (arith, ap (λ (a : At). a.line) c.at-at.ensures) in
     record {
       first = s.then_tokens ∙ ap (λ l. k ∷ tokens l) (sym rest);
       part = s.its_part ∙ ap (λ l. token_bytes k ++ l) (sym rest);

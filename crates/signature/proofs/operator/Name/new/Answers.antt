@@ -7,4 +7,4 @@ pub invariant_of-result : goal.invariant_of-result
 invariant_of-result c = (search (rules, places), (search rules, tt))
 
 pub returns : goal.returns
-returns c = take_at c.copy-from-slice.new.self _ _ (ap length c.copy-from-slice.ensures.after) ∙ c.copy-from-slice.ensures.after
+returns c = take_at c.copy_from_slice.new.self _ _ (ap length c.copy_from_slice.ensures.after) ∙ c.copy_from_slice.ensures.after

@@ -31,5 +31,5 @@ returns c =
     let none : 0 ≡ c.loop-left.left = omega arith in
     let text = lays_as
     (take_all (10 - c.loop-left.first) ds (omega (arith, length-drop c.loop-left.first c.loop-left.digits)) ∙ ap (λ m. front m ++ ds) none ∙ c.loop-left.invariant.3)
-    c.put-all.ensures in
+    c.put_all.ensures in
     record { text = text; short = omega (arith, text.end, length-decimal-le 10 c.args.n (omega arith) (omega arith) (omega arith)) }

@@ -7,6 +7,6 @@ use Rattle.traversal.proofs.write.symbols.put_symbol.Goals as goal
 pub returns-in-Instrument : goal.returns-in-Instrument
 returns-in-Instrument c =
     record {
-      text = lays_as (ap (symbol_text (sig_of c.args.signature.now)) (sym (c.in-Some.is ∙ ap Some c.in-Instrument.is))) (lays_both c.put-end.ensures c.put-decimal.ensures.text);
+      text = lays_as (ap (symbol_text (sig_of c.args.signature.now)) (sym (c.in-Some.is ∙ ap Some c.in-Instrument.is))) (lays_both c.put-end.ensures c.put_decimal.ensures.text);
       short = omega (arith, c.put-end.ensures.end);
     }
