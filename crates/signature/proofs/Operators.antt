@@ -1,12 +1,12 @@
 -- The operators of an array.
-use Rattle.std.proofs.Common.{◌≡◌, ℕ, ◌+◌, ◌<◌, ◌≤◌, Bool, List, [], ◌∷◌, ◌++◌, map, length, get_or, take, set, sym, refl, ap, ◌∙◌, subst, arith}
+use Rattle.std.proofs.Common.{◌≡◌, ℕ, ◌+◌, ◌<◌, ◌≤◌, Bool, List, [], ◌∷◌, ◌++◌, length, get_or, take, set, sym, ap, ◌∙◌, arith}
 use Rattle.std.proofs.lemmas.List.{length-map, length-take-le, get_or-map, get_or-take, get_or_past, take_more_set, map_push, map-set}
 use Rattle.terms.proofs.Lists.{take_of_set}
 use Rattle.signature.specs.declared.operator.Operator.{Operator}
 use Rattle.signature.specs.declared.Signature.{Signature}
 use Rattle.signature.specs.Declaring.{sig_of}
 use Rattle.std.specs.Str.{bytes_eq}
-use Rattle.terms.specs.Signature.{Op, Sig, op_of, Declared}
+use Rattle.terms.specs.Signature.{Op, op_of, Declared}
 use Rattle.signature.specs.Operators.{op_from, ops_from}
 
 module _ (os : List Operator) (n : ℕ) (h : n ≤ length os) where

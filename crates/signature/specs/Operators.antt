@@ -1,5 +1,5 @@
 -- The operators that an array of them stands for.
-use Rattle.std.specs.Prelude.{ℕ, List, [], ◌∷◌, map, take}
+use Rattle.std.specs.Prelude.{ℕ, List, map, take}
 use Rattle.signature.specs.declared.operator.Name.{Name}
 use Rattle.signature.specs.declared.operator.Operator.{Operator}
 use Rattle.terms.specs.Signature.{Op, Sig}

@@ -1,4 +1,4 @@
-use Rattle.std.proofs.Common.{◌≡◌, sym, refl, ap, ◌∙◌, subst, arith, length-set}
+use Rattle.std.proofs.Common.{sym, refl, ◌∙◌, subst, arith, length-set}
 use Rattle.terms.specs.Signature.{Op, Spelt, Apart, Ranked}
 use Rattle.signature.specs.Declaring.{sig_of}
 use Rattle.signature.proofs.Operators.{declared_count, declared_push}
@@ -24,7 +24,14 @@ invariant_of-self c =
     let are_spelt = subst Spelt e (spelt_push (sig_of s) word 0 s.spelt (sym c.if-not-is_name.ensures)) in
     let are_apart = subst Apart e (apart_push (sig_of s) word 0 s.apart (sym c.in_default.ensures)) in
     let are_ranked = subst Ranked e (ranked_push (sig_of s) word 0 s.ranked (omega arith)) in
-    (length-set s.operators s.len _ ∙ s.whole, (omega arith, (declared_count _ _ (omega (arith, length-set s.operators s.len c.new.result)), (are_spelt, (are_apart, (are_ranked, tt))))))
+    record {
+      whole = length-set s.operators s.len _ ∙ s.whole;
+      fits = omega arith;
+      counted = declared_count _ _ (omega (arith, length-set s.operators s.len c.new.result));
+      spelt = are_spelt;
+      apart = are_apart;
+      ranked = are_ranked;
+    }
 
 pub returns : goal.returns
 returns c =

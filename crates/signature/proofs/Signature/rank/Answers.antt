@@ -1,4 +1,4 @@
-use Rattle.std.proofs.Common.{◌≡◌, sym, refl, ap, ◌∙◌, subst, inl, arith, length-set}
+use Rattle.std.proofs.Common.{sym, refl, ◌∙◌, subst, inl, arith, length-set}
 use Rattle.terms.specs.Signature.{Spelt, Apart, Ranked}
 use Rattle.signature.specs.Declaring.{sig_of}
 use Rattle.signature.proofs.Operators.{declared_count, declared_again}

@@ -1,5 +1,4 @@
-use Rattle.std.proofs.Common.{◌≡◌, true, false, sym, ap, ◌∙◌, arith}
-use Rattle.terms.specs.Signature.{word, all_words}
+use Rattle.std.proofs.Common.{true, false, sym, ◌∙◌}
 use Rattle.signature.proofs.Spelling.{words_more, words_end}
 use Rattle.signature.proofs.operator.naming.are_words.Goals as goal
 
