@@ -45,7 +45,7 @@ impl Sheet {
         requires lawful { RuleOf (operators_of self.old) (record { left = side_of left.now; right = side_of right.now }) }
         requires room { length (rules_of self.old) < 32 }
         ensures operators { operators_of self.new ≡ operators_of self.old }
-        ensures rules { rules_of self.new ≡ rules_of self.old ++ record { left = side_of left.entry.now; right = side_of right.now } ∷ [] }
+        ensures rules { rules_of self.new ≡ rules_of self.old ++ record { left = side_of left.now; right = side_of right.now } ∷ [] }
         ensures unjudged { is_admitted self.new ≡ false }
     {
         self.rules[self.len] = Rule::new(left, right);

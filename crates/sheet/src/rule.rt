@@ -13,7 +13,7 @@ pub struct Rule {
 
 impl Rule {
     pub(crate) fn new(left: &Side, right: &Side) -> Rule
-        ensures { rule_of result ≡ record { left = side_of left.entry.now; right = side_of right.now } }
+        ensures { rule_of result ≡ record { left = side_of left.now; right = side_of right.now } }
     {
         Rule {
             left: *left,

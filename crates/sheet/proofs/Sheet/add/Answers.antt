@@ -12,7 +12,13 @@ invariant_of-self c =
     let e = sym (rules_push s.rules s.len c.new.result _ (omega arith) c.new.ensures) in
     let all = subst (Lawful (operators_of s)) e (lawful_push (operators_of s) (rules_of s) _ s.lawful c.requires.lawful) in
     let long = length-set s.rules s.len c.new.result in
-    (long ∙ s.whole, (omega arith, (rules_count _ _ (omega arith), (all, (λ h. absurd (false≢true h), tt)))))
+    record {
+      whole = long ∙ s.whole;
+      fits = omega arith;
+      counted = rules_count _ _ (omega arith);
+      lawful = all;
+      judged = λ h. absurd (false≢true h);
+    }
 
 pub returns : goal.returns
 returns c = let s = c.args.self.now in record { operators = refl; rules = rules_push s.rules s.len c.new.result _ (omega arith) c.new.ensures; unjudged = refl }
