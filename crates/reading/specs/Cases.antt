@@ -1,6 +1,6 @@
 -- Worked cases: what some texts are read as.
 use Rattle.std.specs.Prelude.{◌≡◌, ℕ, ◌<◌, List, [], ◌∷◌, ◌++◌, length, Ok, Err, codes, Result}
-use Rattle.terms.specs.Term.{Term, instrument, apply, Terms, nil, cons}
+use Rattle.terms.specs.Term.{Term, instrument, apply, nil, cons}
 use Rattle.terms.specs.Signature.{Sig}
 use Rattle.reading.specs.declared.token.At.{At}
 use Rattle.reading.specs.declared.fault.TextFault.{TextFault}

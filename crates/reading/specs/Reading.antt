@@ -1,6 +1,6 @@
 -- How a ticket's text is read, token by token, and which token is refused.
-use Rattle.std.specs.Prelude.{ℕ, zero, suc, Bool, true, false, cond, List, [], ◌∷◌, length, Some, None, Ok, Err, Option, Result, nat_le}
-use Rattle.terms.specs.Term.{Term, variable, instrument, apply, Terms, nil, cons}
+use Rattle.std.specs.Prelude.{ℕ, zero, suc, cond, List, [], ◌∷◌, length, Some, None, Ok, Err, Option, Result, nat_le}
+use Rattle.terms.specs.Term.{Term, instrument, apply, Terms, nil, cons}
 use Rattle.terms.specs.Signature.{Sig, op_of, found}
 use Rattle.reading.specs.declared.token.At.{At}
 use Rattle.reading.specs.declared.token.Mark.{Mark}

@@ -1,5 +1,5 @@
 -- What counting the symbols of a term and writing its text answer, for every view.
-use Rattle.std.specs.Prelude.{◌≡◌, ℕ, ◌<◌, ◌≤◌, List, [], ◌∷◌, ◌++◌, length, drop, Some, None, Ok, Err, Option, Result}
+use Rattle.std.specs.Prelude.{◌≡◌, ℕ, ◌<◌, ◌≤◌, List, ◌++◌, length, drop, Some, None, Ok, Err, Option, Result}
 use Rattle.terms.specs.Term.{Term, symbols}
 use Rattle.terms.specs.Signature.{Sig}
 use Rattle.terms.specs.Text.{text_of}

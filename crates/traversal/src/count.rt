@@ -10,7 +10,7 @@ use terms::view::TermView;
 
 // The number of symbols of the term at a place, or nothing where no term of at most 16,384 symbols stands there.
 pub fn count_symbols<V: TermView>(view: &V, place: u16) -> Option<usize>
-    ensures { Counted (answers view.now) place result }
+    ensures { Counted (V.answers view.now) place result }
 {
     let mut stack: Stack<u16, MOST> = Stack::new(place);
     stack.push(place);
@@ -26,7 +26,7 @@ pub fn count_symbols<V: TermView>(view: &V, place: u16) -> Option<usize>
 
 // Puts the places of the arguments of a symbol onto the stack; says no where it cannot be the symbol of a term, or there is no room.
 fn visit<V: TermView>(view: &V, place: u16, stack: &mut Stack<u16, MOST>) -> bool
-    ensures { Visited (answers view.now) (place ∷ content stack.old) (content stack.new) result }
+    ensures { Visited (V.answers view.now) (place ∷ content stack.old) (content stack.new) result }
 {
     let Some(symbol) = view.symbol(place) else {
         return false;
@@ -40,8 +40,8 @@ fn visit<V: TermView>(view: &V, place: u16, stack: &mut Stack<u16, MOST>) -> boo
 
 // Puts the places of the arguments of a place onto the stack, the first on top, and says whether there was room.
 fn push_arguments<V: TermView>(view: &V, place: u16, stack: &mut Stack<u16, MOST>) -> bool
-    ensures row { PutBefore (row_of (answers view.now) place) (content stack.old) (content stack.new) result }
-    ensures few { (answers view.now).argument place 3 ≡ None }
+    ensures row { PutBefore (row_of (V.answers view.now) place) (content stack.old) (content stack.new) result }
+    ensures few { (V.answers view.now).argument place 3 ≡ None }
 {
     let Some(first) = view.argument(place, 0) else {
         return true;

@@ -28,7 +28,7 @@ pub fn write_text<V: TermView>(
     place: u16,
     buffer: &mut [u8],
 ) -> Result<usize, Unwritten>
-    ensures { Written (sig_of signature.now) (answers view.now) place buffer.old buffer.new result }
+    ensures { Written (sig_of signature.now) (V.answers view.now) place buffer.old buffer.new result }
 {
     let Some(n) = count_symbols(view, place) else {
         return Err(Unwritten::NoTerm);
@@ -49,8 +49,8 @@ fn lay_text<V: TermView>(
     n: usize,
     buffer: &mut [u8],
 ) -> usize
-    requires { SomeOfSize (answers view.now) place n }
-    ensures { (t : Term) → OfSize (answers view.now) place n t → Lays (text_of (sig_of signature.now) t) buffer.old 0 buffer.new result }
+    requires { SomeOfSize (V.answers view.now) place n }
+    ensures { (t : Term) → OfSize (V.answers view.now) place n t → Lays (text_of (sig_of signature.now) t) buffer.old 0 buffer.new result }
 {
     let root = Pending::new(place, Lead::Nothing, 0);
     let mut stack: Stack<Pending, MOST> = Stack::new(root);
@@ -74,8 +74,8 @@ fn lay_symbol<V: TermView>(
     buffer: &mut [u8],
     at: usize,
 ) -> usize
-    requires { Layable (answers view.now) (item ∷ content stack.old) at }
-    ensures { Stepped (sig_of signature.now) (answers view.now) (item ∷ content stack.old) (content stack.new) buffer.old at buffer.new result }
+    requires { Layable (V.answers view.now) (item ∷ content stack.old) at }
+    ensures { Stepped (sig_of signature.now) (V.answers view.now) (item ∷ content stack.old) (content stack.new) buffer.old at buffer.new result }
 {
     let start = put_lead(buffer, at, item.lead);
     let end = put_symbol(buffer, start, signature, view.symbol(item.place));
@@ -88,10 +88,10 @@ fn lay_symbol<V: TermView>(
 
 // Puts the arguments of a term onto the stack, the first on top, and says whether there are any.
 fn push_arguments<V: TermView>(view: &V, item: Pending, stack: &mut Stack<Pending, MOST>) -> bool
-    requires room { length (row_of (answers view.now) item.place) + length (content stack.old) ≤ 16384 }
+    requires room { length (row_of (V.answers view.now) item.place) + length (content stack.old) ≤ 16384 }
     requires low { item.closings < 2 ^ 31 }
-    ensures row { Spread item.closings (row_of (answers view.now) item.place) (content stack.old) (content stack.new) result }
-    ensures few { (answers view.now).argument item.place 3 ≡ None }
+    ensures row { Spread item.closings (row_of (V.answers view.now) item.place) (content stack.old) (content stack.new) result }
+    ensures few { (V.answers view.now).argument item.place 3 ≡ None }
 {
     let closings = item.closings + 1;
     let Some(first) = view.argument(item.place, 0) else {

@@ -10,15 +10,15 @@ loop-k-init g c =
 
 pub returns-in_default : goal.returns-in_default
 returns-in_default g c = λ t h.
-    absurd (laying_some _ _ c.args.place c.args.n c.loop-k.-k _ _ _ c.loop-k.at c.requires (omega arith) c.in_default.ensures c.loop-k.invariant)
+    absurd (laying_some _ _ c.args.place c.args.n c.loop-k._k _ _ _ c.loop-k.at c.requires (omega arith) c.in_default.ensures c.loop-k.invariant)
 
 pub lay_symbol-at-requires : goal.lay_symbol-at-requires
 lay_symbol-at-requires g c =
-    laying_layable _ _ c.args.place c.args.n c.loop-k.-k c.in-Some.item _ _ _ _ c.loop-k.at c.requires (omega arith) c.in-Some.ensures c.loop-k.invariant
+    laying_layable _ _ c.args.place c.args.n c.loop-k._k c.in-Some.item _ _ _ _ c.loop-k.at c.requires (omega arith) c.in-Some.ensures c.loop-k.invariant
 
 pub loop-k-preserved : goal.loop-k-preserved
 loop-k-preserved g c =
-    laying_again _ _ c.args.place c.args.n c.loop-k.-k c.in-Some.item _ _ _ _ _ _ c.loop-k.at c.lay_symbol-at.result c.in-Some.ensures c.loop-k.invariant c.lay_symbol-at.ensures
+    laying_again _ _ c.args.place c.args.n c.loop-k._k c.in-Some.item _ _ _ _ _ _ c.loop-k.at c.lay_symbol-at.result c.in-Some.ensures c.loop-k.invariant c.lay_symbol-at.ensures
 
 pub returns : goal.returns
-returns g c = laying_end _ _ c.args.place c.args.n c.loop-k.-k _ _ _ c.loop-k.at (omega arith) c.loop-k.invariant
+returns g c = laying_end _ _ c.args.place c.args.n c.loop-k._k _ _ _ c.loop-k.at (omega arith) c.loop-k.invariant

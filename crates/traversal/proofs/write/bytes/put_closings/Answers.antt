@@ -5,7 +5,7 @@ use Rattle.traversal.proofs.Overlays.{lays_both, lays_as}
 use Rattle.traversal.proofs.write.bytes.put_closings.Goals as goal
 
 pub put-end-requires : goal.put-end-requires
-put-end-requires c = let long = length-replicate {A = ℕ} c.loop-k.-k 41 in omega (arith, c.loop-k.invariant.end)
+put-end-requires c = let long = length-replicate {A = ℕ} c.loop-k._k 41 in omega (arith, c.loop-k.invariant.end)
 
 pub loop-k-preserved : goal.loop-k-preserved
-loop-k-preserved c = lays_as (replicate_more c.loop-k.-k 41) (lays_both c.loop-k.invariant c.put-end.ensures)
+loop-k-preserved c = lays_as (replicate_more c.loop-k._k 41) (lays_both c.loop-k.invariant c.put-end.ensures)
