@@ -5,13 +5,13 @@ use Rattle.terms.specs.Signature.{Sig, found}
 use Rattle.reading.specs.declared.token.At.{At}
 use Rattle.reading.specs.declared.fault.TextFault.{TextFault}
 use Rattle.reading.specs.declared.fault.TextFault.TheVariants.{Stray, BadNumber, Unexpected, Undeclared, WrongArity, PastLimit}
-use Rattle.reading.specs.declared.fault.SheetFault.{SheetFault}
-use Rattle.reading.specs.declared.fault.SheetFault.TheVariants.{Text, Repeated, Headless, Doubled, Unbound}
 use Rattle.reading.specs.Tokens.{Tok, a_name, a_number, an_instrument, a_variable, a_mark, a_stray}
 use Rattle.reading.specs.Numbers.{plain, instrument_number}
 use Rattle.reading.specs.Reading.{unless_some, fault_of}
 use Rattle.reading.specs.Laws.{Wrong}
-use Rattle.sheet_reading.specs.Laws.{Behind, symbol, WholeSheet, StuckAt, names_on, PastLimit, Miscounted, InLeft, NotInLeft, RefusedFor}
+use Rattle.sheet_reading.specs.declared.fault.SheetFault.{SheetFault}
+use Rattle.sheet_reading.specs.declared.fault.SheetFault.TheVariants.{Text, Repeated, Headless, Doubled, Unbound}
+use Rattle.sheet_reading.specs.Laws.{Behind, symbol, WholeSheet, StuckAt, names_on, BeyondLimit, Miscounted, InLeft, NotInLeft, RefusedFor}
 use Rattle.sheet_reading.proofs.SideFacts.{OfLimit}
 
 abbrev pub TextCause : Sig → List Tok → Wrong → TextFault → Type 0
@@ -20,7 +20,7 @@ TextCause sig before w (BadNumber at) = Behind before at × ((s : List ℕ) × (
 TextCause sig before w (Unexpected at) = Behind before at
 TextCause sig before w (Undeclared at) = Behind before at × ((s : List ℕ) × (w ≡ Some (a_name s)) × (found sig s ≡ None))
 TextCause sig before w (WrongArity at) = Miscounted sig before w at
-TextCause sig before w (PastLimit at) = Behind before at × PastLimit before × ((k : Tok) × (w ≡ Some k) × (symbol k ≡ 1))
+TextCause sig before w (PastLimit at) = Behind before at × BeyondLimit before × ((k : Tok) × (w ≡ Some k) × (symbol k ≡ 1))
 
 abbrev pub Cause : Sig → List Tok → Wrong → SheetFault → Type 0
 Cause sig before w (Text f) = TextCause sig before w f

@@ -1,12 +1,12 @@
 -- A run over some tokens of a sheet, and where it stops.
 use Rattle.std.proofs.Common.{◌≡◌, ℕ, suc, List, [], ◌∷◌, ◌++◌, take, drop, Some, None, Ok, Err, Result, sym, refl, ap, ◌∙◌}
 use Rattle.reading.specs.declared.token.At.{At}
-use Rattle.reading.specs.declared.fault.SheetFault.{SheetFault}
 use Rattle.reading.specs.Tokens.{Tok, past}
-use Rattle.reading.specs.Heading.{and_on}
 use Rattle.reading.specs.Laws.{Wrong, first_of}
 use Rattle.reading.proofs.Equal.{not_both, same_fault}
 use Rattle.reading.proofs.Running.{passed}
+use Rattle.sheet_reading.specs.declared.fault.SheetFault.{SheetFault}
+use Rattle.sheet_reading.specs.Heading.{and_on}
 use Rattle.sheet_reading.specs.Sheet.{Sheet, Limits}
 use Rattle.sheet_reading.specs.Reading.{Stand, Move, sheet_step, sheet_end, sheet_run}
 

@@ -9,10 +9,10 @@ use Rattle.reading.specs.declared.token.At.{At}
 use Rattle.reading.specs.declared.token.Mark.TheVariants.{Blank, LineEnd}
 use Rattle.reading.specs.declared.heading.Stage.TheVariants.{WantsName, HasName, WantsCount, HasCount}
 use Rattle.reading.specs.Tokens.{Tok, a_mark, past}
-use Rattle.reading.specs.Heading.{Outcome, named_once, counted, and_on}
 use Rattle.reading.proofs.Digits.{numbered_decimal}
 use Rattle.reading.proofs.Names.{found_is}
 use Rattle.reading.proofs.Lines.{follow, line, name_tok, count_tok, heading_tokens, all_ranked}
+use Rattle.sheet_reading.specs.Heading.{Outcome, named_once, counted, and_on}
 use Rattle.sheet_reading.specs.Sheet.{Limits}
 use Rattle.sheet_reading.specs.Reading.{in_heading, wants_value, Move, headed}
 use Rattle.sheet_reading.proofs.Going.{reach, Leads}

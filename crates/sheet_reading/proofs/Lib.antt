@@ -1,3 +1,7 @@
+pub mod Tokens
+pub mod Lexing
+pub mod Lines
+pub mod Growing
 pub mod SideFacts
 pub mod SideStates
 pub mod Counting

@@ -4,19 +4,21 @@ use Rattle.std.specs.List.{AllByRecursion as All}
 use Rattle.std.proofs.lemmas.Bool.{cond-true, cond_both, le-leb, leb-true, leb-false}
 use Rattle.std.proofs.ByRecursion.{All-take, All-drop}
 use Rattle.reading.specs.declared.fault.TextFault.TheVariants.{PastLimit}
-use Rattle.reading.specs.declared.fault.SheetFault.{SheetFault}
-use Rattle.reading.specs.declared.fault.SheetFault.TheVariants.{Text}
 use Rattle.reading.specs.Tokens.{Tok, tokens, whole, origin}
 use Rattle.reading.specs.Reading.{top, within, wants, opens, has}
-use Rattle.reading.specs.Heading.{and_on, sheet_limit}
+use Rattle.reading.specs.Heading.{sheet_limit}
 use Rattle.reading.specs.Laws.{Wrong, first_of}
 use Rattle.reading.proofs.Equal.{no_some, same_some, not_both, same_ok}
-use Rattle.reading.proofs.Tokens.{Lexed, tokens_lexed, whole_tokens}
+use Rattle.reading.proofs.Tokens.{whole_tokens}
 use Rattle.reading.proofs.Running.{passed}
+use Rattle.sheet_reading.specs.declared.fault.SheetFault.{SheetFault}
+use Rattle.sheet_reading.specs.declared.fault.SheetFault.TheVariants.{Text}
+use Rattle.sheet_reading.specs.Heading.{and_on}
 use Rattle.sheet_reading.specs.Sheet.{Sheet, SheetShaped, limits, SheetWithin, sheet_text}
 use Rattle.sheet_reading.specs.Sides.{on_left, on_right}
 use Rattle.sheet_reading.specs.Reading.{Stand, in_heading, wants_value, has_value, has_word, in_rule, rule_end, sheet_end, sheet_run, read_sheet}
 use Rattle.sheet_reading.specs.Laws.{FirstWrong, Explained, SheetLaw}
+use Rattle.sheet_reading.proofs.Tokens.{Lexed, tokens_lexed}
 use Rattle.sheet_reading.proofs.Going.{reach, run_reach, run_ends, run_stops}
 use Rattle.sheet_reading.proofs.Written.{tokens_sheet}
 use Rattle.sheet_reading.proofs.Causes.{Cause, refused_for}

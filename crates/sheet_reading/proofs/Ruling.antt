@@ -12,19 +12,19 @@ use Rattle.reading.specs.declared.token.At.{At}
 use Rattle.reading.specs.declared.token.Mark.TheVariants.{Equals, LineEnd}
 use Rattle.reading.specs.declared.fault.TextFault.{TextFault}
 use Rattle.reading.specs.declared.fault.TextFault.TheVariants.{Stray, BadNumber, Unexpected, Undeclared, WrongArity, PastLimit}
-use Rattle.reading.specs.declared.fault.SheetFault.{SheetFault}
-use Rattle.reading.specs.declared.fault.SheetFault.TheVariants.{Text, Repeated, Headless, Doubled, Unbound}
 use Rattle.reading.specs.Tokens.{Tok, a_name, a_number, an_instrument, a_variable, a_mark, a_stray, tokens}
 use Rattle.reading.specs.Numbers.{instrument_number}
 use Rattle.reading.specs.Reading.{top, within, State, wants, opens, has, with_name, with_number}
-use Rattle.reading.specs.Heading.{and_on}
-use Rattle.reading.proofs.Tokens.{Lexed}
 use Rattle.reading.proofs.States.{state_tokens}
+use Rattle.sheet_reading.specs.declared.fault.SheetFault.{SheetFault}
+use Rattle.sheet_reading.specs.declared.fault.SheetFault.TheVariants.{Text, Repeated, Headless, Doubled, Unbound}
+use Rattle.sheet_reading.specs.Heading.{and_on}
 use Rattle.sheet_reading.specs.Values.{Grid}
 use Rattle.sheet_reading.specs.Sheet.{SheetShaped, Limits, limits}
 use Rattle.sheet_reading.specs.Sides.{Hand, on_left, on_right, room, within_room, in_text, fronted, variable_on, side_step}
 use Rattle.sheet_reading.specs.Reading.{in_rule, Move, ends_side, behind_side, in_side, on_rule}
-use Rattle.sheet_reading.specs.Laws.{Behind, WholeSheet, LeftSide, BeforeSide, PastLimit, many_rules, many_symbols, many_levels}
+use Rattle.sheet_reading.specs.Laws.{Behind, WholeSheet, LeftSide, BeforeSide, BeyondLimit, many_rules, many_symbols, many_levels}
+use Rattle.sheet_reading.proofs.Tokens.{Lexed}
 use Rattle.sheet_reading.proofs.SideFacts.{LeftShaped, RightShaped, TextReason, SideReason}
 use Rattle.sheet_reading.proofs.Stands.{front_tokens, the_word, rule_tokens, rules_tokens, rules_push, sheet_tokens, sheet_of, before_side, stand_tokens}
 use Rattle.sheet_reading.proofs.Written.{tokens_sheet}
@@ -83,7 +83,7 @@ module _ (sig : Sig) (grid : Grid) (rules : List Rule) (shaped : SheetShaped (sh
   -- causes
 
   past_limit : (d : Hand) (s : State) → HandGood sig d → length rules ≤ 32 → (length rules ≡ 32 → (d ≡ on_left) × (s ≡ wants top)) → (at : At) (k : Tok)
-      → TextReason limits sig (length rules) (before_side sig grid rules d) (state_tokens sig s) at k (PastLimit at) → PastLimit (before_side sig grid rules d ++ state_tokens sig s)
+      → TextReason limits sig (length rules) (before_side sig grid rules d) (state_tokens sig s) at k (PastLimit at) → BeyondLimit (before_side sig grid rules d ++ state_tokens sig s)
   past_limit d s h few last at k r =
       ⊎_elim
       (λ e. let full : length rules ≡ 32 = omega arith in

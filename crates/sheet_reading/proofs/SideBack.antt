@@ -10,20 +10,40 @@ use Rattle.terms.specs.Text.{text_of}
 use Rattle.terms.specs.Substitution.{occurrences, occurrences_in}
 use Rattle.reading.specs.declared.token.At.{At}
 use Rattle.reading.specs.declared.token.Mark.TheVariants.{Opening, Closing, Comma}
-use Rattle.reading.specs.declared.fault.SheetFault.{SheetFault}
 use Rattle.reading.specs.Tokens.{Tok, a_name, a_mark, tokens, past}
 use Rattle.reading.specs.Reading.{Context, top, within, State, wants, has, and_then, named, with_number}
-use Rattle.reading.specs.Heading.{and_on}
 use Rattle.reading.specs.Laws.{further_arguments, arguments_so_far}
 use Rattle.reading.proofs.Digits.{numbered_decimal}
-use Rattle.reading.proofs.Lexing.{closing, tokens_term}
+use Rattle.reading.proofs.Lexing.{closing}
 use Rattle.reading.proofs.Running.{passed}
-use Rattle.reading.proofs.Back.{join, join_then, then_join, Leads, name_step}
+use Rattle.reading.proofs.Back.{name_step}
+use Rattle.sheet_reading.specs.declared.fault.SheetFault.{SheetFault}
+use Rattle.sheet_reading.specs.Heading.{and_on}
 use Rattle.sheet_reading.specs.Sheet.{Limits, SideWithin}
 use Rattle.sheet_reading.specs.Sides.{Hand, on_left, on_right, symbols_before, depth, occurrences_before, room, within_room, in_text, fronted, variable_on, side_step}
+use Rattle.sheet_reading.proofs.Lexing.{tokens_term}
 use Rattle.sheet_reading.proofs.SideFacts.{HandShaped, side_reach}
 use Rattle.sheet_reading.proofs.SideStates.{MayStand, Fronted}
 use Rattle.sheet_reading.proofs.SideSteps.{front_within}
+
+abbrev join : Terms → Terms → Terms
+join nil us = us
+join (cons t ts) us = cons t (join ts us)
+
+join_then : (us : Terms) (u : Term) (ts : Terms) → join (and_then us u) ts ≡ join us (cons u ts)
+join_then nil u ts = refl
+join_then (cons v us) u ts = ap (cons v) (join_then us u ts)
+
+join_nil : (us : Terms) → join us nil ≡ us
+join_nil nil = refl
+join_nil (cons u us) = ap (cons u) (join_nil us)
+
+then_join : (us : Terms) (u : Term) → and_then us u ≡ join us (cons u nil)
+then_join us u = sym (join_nil (and_then us u)) ∙ join_then us u nil
+
+-- a run comes to the last of these arguments of f, with n to follow
+abbrev Leads : Result State SheetFault → ℕ → At → ℕ → Context → Terms → Type 0
+Leads r f a n k ts = (us : Terms) × (u : Term) × (m : Option At) × (and_then us u ≡ ts) × (r ≡ Ok (has u m (within f a us n k)))
 
 symbols_then : (ts : Terms) (t : Term) → symbols_in (and_then ts t) ≡ symbols_in ts + symbols t
 symbols_then nil t = omega arith

@@ -7,11 +7,11 @@ use Rattle.reading.specs.declared.token.At.{At}
 use Rattle.reading.specs.declared.token.Mark.TheVariants.{Opening, Closing, Comma}
 use Rattle.reading.specs.Tokens.{Tok, an_instrument, a_mark}
 use Rattle.reading.specs.Reading.{Context, top, within, State, wants, opens, has, and_then, named}
-use Rattle.reading.proofs.Lexing.{tokens_term}
 use Rattle.reading.proofs.States.{name_of, stack_tokens, state_tokens}
-use Rattle.reading.proofs.Telling.{name_alone, tokens_opened, tokens_closed, tokens_continued}
 use Rattle.sheet_reading.specs.Sides.{Hand, on_left, on_right}
 use Rattle.sheet_reading.specs.Laws.{count, the_variable, Behind}
+use Rattle.sheet_reading.proofs.Lexing.{tokens_term}
+use Rattle.sheet_reading.proofs.Growing.{name_alone, tokens_opened, tokens_closed, tokens_continued}
 use Rattle.sheet_reading.proofs.SideStates.{StateShaped, frame_next, frame_full, MayStand, Fronted, Begun}
 use Rattle.sheet_reading.proofs.Counting.{count_then}
 

@@ -11,23 +11,23 @@ use Rattle.reading.specs.declared.token.Mark.{Mark}
 use Rattle.reading.specs.declared.token.Mark.TheVariants.{Opening, Closing, Comma, Equals, Dash, Blank, LineEnd}
 use Rattle.reading.specs.declared.fault.TextFault.{TextFault}
 use Rattle.reading.specs.declared.fault.TextFault.TheVariants.{BadNumber}
-use Rattle.reading.specs.declared.fault.SheetFault.{SheetFault}
-use Rattle.reading.specs.declared.fault.SheetFault.TheVariants.{Headless}
 use Rattle.reading.specs.Tokens.{Tok, a_name, a_number, an_instrument, a_variable, a_mark, a_stray, tokens, lines}
 use Rattle.reading.specs.Numbers.{plain, instrument_number}
 use Rattle.reading.specs.Reading.{Context, top, within, State, wants, opens, has, and_then, unless_some, fault_of, named, with_name, with_number, needless, closed, continued, on_opens_mark, on_has_mark}
-use Rattle.reading.specs.Heading.{and_on}
 use Rattle.reading.specs.Laws.{Wrong, ShowsCount, needless_opening, missing_opening, comma_for_closing, closing_for_comma}
 use Rattle.reading.proofs.Equal.{same_some}
 use Rattle.reading.proofs.Digits.{instrument_is}
 use Rattle.reading.proofs.Names.{found_is}
-use Rattle.reading.proofs.Tokens.{Lexed}
-use Rattle.reading.proofs.Lexing.{tokens_term}
 use Rattle.reading.proofs.States.{name_of, awaiting, stack_tokens, state_tokens, arguments_then, many_then}
+use Rattle.sheet_reading.specs.declared.fault.SheetFault.{SheetFault}
+use Rattle.sheet_reading.specs.declared.fault.SheetFault.TheVariants.{Headless}
+use Rattle.sheet_reading.specs.Heading.{and_on}
 use Rattle.sheet_reading.specs.Sheet.{Limits}
 use Rattle.sheet_reading.specs.Sides.{Hand, on_left, on_right, symbols_before, depth, occurrences_before, room, within_room, in_text, fronted, variable_on, side_step}
 use Rattle.sheet_reading.specs.Reading.{is_mark}
 use Rattle.sheet_reading.specs.Laws.{count, symbol, the_variable, Behind, Miscounted}
+use Rattle.sheet_reading.proofs.Tokens.{Lexed}
+use Rattle.sheet_reading.proofs.Lexing.{tokens_term}
 use Rattle.sheet_reading.proofs.SideFacts.{TextReason, SideReason}
 use Rattle.sheet_reading.proofs.SideStates.{Frame, Placed, ContextShaped, terms_then, StateLow, depth_low, levels_then, MayStand, Fronted, Good}
 use Rattle.sheet_reading.proofs.SideSteps.{GoesOn, goes_named, goes_instrument, goes_opened, goes_closed, goes_continued}

@@ -4,11 +4,11 @@ use Rattle.std.specs.List.{AllByRecursion as All}
 use Rattle.terms.specs.Term.{Term, symbols}
 use Rattle.terms.specs.Rule.{Rule, levels}
 use Rattle.reading.specs.declared.heading.Stage.TheVariants.{WantsName}
-use Rattle.reading.specs.declared.fault.SheetFault.{SheetFault}
 use Rattle.reading.specs.Tokens.{Tok, tokens, origin}
 use Rattle.reading.specs.Laws.{Wrong}
 use Rattle.reading.proofs.Equal.{not_both, same_ok}
 use Rattle.reading.proofs.Running.{passed}
+use Rattle.sheet_reading.specs.declared.fault.SheetFault.{SheetFault}
 use Rattle.sheet_reading.specs.Sheet.{Sheet, SheetShaped, Limits, limits, SheetWithin, sheet_text}
 use Rattle.sheet_reading.specs.Reading.{Stand, in_heading, sheet_step, sheet_end}
 use Rattle.sheet_reading.specs.Laws.{StuckAt}

@@ -4,19 +4,20 @@ use Rattle.std.specs.List.{AllByRecursion as All}
 use Rattle.terms.specs.Signature.{Sig}
 use Rattle.reading.specs.declared.token.At.{At}
 use Rattle.reading.specs.declared.heading.Stage.TheVariants.{WantsName, HasName, WantsCount, HasCount, Done}
-use Rattle.reading.specs.declared.fault.SheetFault.{SheetFault}
 use Rattle.reading.specs.Tokens.{Tok, past}
 use Rattle.reading.specs.Reading.{top, within, wants, opens, has}
-use Rattle.reading.specs.Heading.{Head, Outcome, head_step, and_on}
+use Rattle.reading.specs.Heading.{Head}
 use Rattle.reading.specs.Laws.{Wrong}
 use Rattle.reading.proofs.Equal.{no_some, not_both, same_ok, same_fault}
-use Rattle.reading.proofs.Tokens.{Lexed}
 use Rattle.reading.proofs.Lines.{heading_tokens}
 use Rattle.reading.proofs.Running.{passed}
+use Rattle.sheet_reading.specs.declared.fault.SheetFault.{SheetFault}
+use Rattle.sheet_reading.specs.Heading.{Outcome, head_step, and_on}
 use Rattle.sheet_reading.specs.Sheet.{limits}
 use Rattle.sheet_reading.specs.Sides.{on_left, on_right}
 use Rattle.sheet_reading.specs.Reading.{Stand, in_heading, wants_value, has_value, has_word, in_rule, headed, sheet_step, rule_end, sheet_end}
 use Rattle.sheet_reading.specs.Laws.{Behind}
+use Rattle.sheet_reading.proofs.Tokens.{Lexed}
 use Rattle.sheet_reading.proofs.Going.{reach, reach_first, Refuses}
 use Rattle.sheet_reading.proofs.Stands.{head_tokens, before_side, stand_tokens, behind_past}
 use Rattle.sheet_reading.proofs.Causes.{Cause}

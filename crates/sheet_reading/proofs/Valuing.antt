@@ -7,19 +7,19 @@ use Rattle.terms.specs.Signature.{Sig, op_of}
 use Rattle.reading.specs.declared.token.At.{At}
 use Rattle.reading.specs.declared.token.Mark.{Mark}
 use Rattle.reading.specs.declared.token.Mark.TheVariants.{Opening, Closing, Comma, Equals, Dash, Blank, LineEnd}
-use Rattle.reading.specs.declared.fault.SheetFault.{SheetFault}
 use Rattle.reading.specs.Tokens.{Tok, a_name, a_number, an_instrument, a_variable, a_mark, a_stray, single, mark_byte}
 use Rattle.reading.specs.Numbers.{numbered}
-use Rattle.reading.specs.Heading.{and_on}
 use Rattle.reading.specs.Laws.{AllDigits}
 use Rattle.reading.proofs.Digits.{numbers}
-use Rattle.reading.proofs.Tokens.{Lexed}
 use Rattle.reading.proofs.Lines.{heading_tokens}
+use Rattle.sheet_reading.specs.declared.fault.SheetFault.{SheetFault}
+use Rattle.sheet_reading.specs.Heading.{and_on}
 use Rattle.sheet_reading.specs.Values.{Value, Grid, range_of, ValueIn, LineIn}
 use Rattle.sheet_reading.specs.Sheet.{limits}
 use Rattle.sheet_reading.specs.Sides.{on_left}
 use Rattle.sheet_reading.specs.Reading.{is_mark, is_word, wants_value, has_value, has_word, from_least, value_of, rules_may_come, on_line, behind_value, behind_word}
 use Rattle.sheet_reading.specs.Laws.{Behind}
+use Rattle.sheet_reading.proofs.Tokens.{Lexed}
 use Rattle.sheet_reading.proofs.Stands.{blanked, spaced, spaced_push, spaced_blank, spaced_end, value_tok, grid_tokens, front_tokens, the_word, grid_append, before_side, stand_tokens}
 use Rattle.sheet_reading.proofs.Causes.{Cause, not_here_cause}
 use Rattle.sheet_reading.proofs.SideTelling.{starts}

@@ -1,16 +1,15 @@
 -- Worked cases: what some sheets are read as.
 use Rattle.std.specs.Prelude.{◌≡◌, ℕ, zero, suc, ◌+◌, ◌/◌, ◌%◌, ◌<◌, List, [], ◌∷◌, ◌++◌, length, Some, None, Ok, Err, codes, Option, Result}
-use Rattle.terms.specs.Term.{Term, variable, instrument, apply, Terms, nil, cons}
+use Rattle.terms.specs.Term.{Term, variable, apply, nil, cons}
 use Rattle.terms.specs.Rule.{Rule}
-use Rattle.terms.specs.Signature.{Sig}
 use Rattle.reading.specs.declared.token.At.{At}
-use Rattle.reading.specs.declared.fault.TextFault.{TextFault}
 use Rattle.reading.specs.declared.fault.TextFault.TheVariants.{Stray, BadNumber, Unexpected, Undeclared, WrongArity, PastLimit}
-use Rattle.reading.specs.declared.fault.SheetFault.{SheetFault}
-use Rattle.reading.specs.declared.fault.SheetFault.TheVariants.{Text, Repeated, Headless, Doubled, Unbound}
 use Rattle.reading.specs.Tokens.{origin}
 use Rattle.reading.specs.Cases.{sample}
-use Rattle.reading.specs.Heading.{sheet_limit, line_of}
+use Rattle.reading.specs.Heading.{sheet_limit}
+use Rattle.sheet_reading.specs.declared.fault.SheetFault.{SheetFault}
+use Rattle.sheet_reading.specs.declared.fault.SheetFault.TheVariants.{Text, Repeated, Headless, Doubled, Unbound}
+use Rattle.sheet_reading.specs.Heading.{line_of}
 use Rattle.sheet_reading.specs.Values.{Grid}
 use Rattle.sheet_reading.specs.Sheet.{Sheet}
 use Rattle.sheet_reading.specs.Reading.{read_sheet}

@@ -10,11 +10,11 @@ use Rattle.reading.specs.declared.token.Mark.{Mark}
 use Rattle.reading.specs.declared.token.Mark.TheVariants.{Opening, Closing, Equals, Blank}
 use Rattle.reading.specs.declared.fault.TextFault.{TextFault}
 use Rattle.reading.specs.declared.fault.TextFault.TheVariants.{Stray, BadNumber, Unexpected, Undeclared, WrongArity, PastLimit}
-use Rattle.reading.specs.declared.fault.SheetFault.{SheetFault}
-use Rattle.reading.specs.declared.fault.SheetFault.TheVariants.{Text, Repeated, Headless, Doubled, Unbound}
 use Rattle.reading.specs.Tokens.{Tok, a_name, a_number, an_instrument, a_variable, a_mark, a_stray, tokens, whole, lines, origin}
 use Rattle.reading.specs.Heading.{sheet_limit}
 use Rattle.reading.specs.Laws.{Wrong, first_of, ShowsCount, arguments_so_far}
+use Rattle.sheet_reading.specs.declared.fault.SheetFault.{SheetFault}
+use Rattle.sheet_reading.specs.declared.fault.SheetFault.TheVariants.{Text, Repeated, Headless, Doubled, Unbound}
 use Rattle.sheet_reading.specs.Sheet.{Sheet, SheetShaped, limits, SheetWithin, sheet_text}
 use Rattle.sheet_reading.specs.Reading.{is_mark, read_sheet}
 
@@ -81,11 +81,11 @@ names_on [] = []
 names_on (o ∷ os) = a_name o.name ∷ (a_mark Blank ∷ names_on os)
 
 -- the next symbol behind these tokens is past a limit: the 33rd name, the first symbol of the 33rd rule, the 33rd symbol of a side, a symbol on level 17
-pub data PastLimit (before : List Tok) : Type 0 where
-  many_names : (sig : Sig) → Declared sig → length sig ≡ 32 → before ≡ names_on sig → PastLimit before
-  many_rules : (s : Sheet) → SheetShaped s → length s.rules ≡ 32 → before ≡ tokens (sheet_text s) → PastLimit before
-  many_symbols : (earlier side : List Tok) → BeforeSide earlier → count symbol side ≡ 32 → before ≡ earlier ++ side → PastLimit before
-  many_levels : (earlier side : List Tok) → BeforeSide earlier → count (mark Opening) side ≡ count (mark Closing) side + 16 → before ≡ earlier ++ side → PastLimit before
+pub data BeyondLimit (before : List Tok) : Type 0 where
+  many_names : (sig : Sig) → Declared sig → length sig ≡ 32 → before ≡ names_on sig → BeyondLimit before
+  many_rules : (s : Sheet) → SheetShaped s → length s.rules ≡ 32 → before ≡ tokens (sheet_text s) → BeyondLimit before
+  many_symbols : (earlier side : List Tok) → BeforeSide earlier → count symbol side ≡ 32 → before ≡ earlier ++ side → BeyondLimit before
+  many_levels : (earlier side : List Tok) → BeforeSide earlier → count (mark Opening) side ≡ count (mark Closing) side + 16 → before ≡ earlier ++ side → BeyondLimit before
 
 -- an operator stands before the wrong token, with the arguments so far, and the token shows a wrong count; the place is the operator's
 pub record Miscounted (sig : Sig) (before : List Tok) (w : Wrong) (at : At) : Type 0 where
@@ -121,7 +121,7 @@ TextRefused sig before w (BadNumber at) = Behind before at × StuckAt before w �
 TextRefused sig before w (Unexpected at) = Behind before at × StuckAt before w
 TextRefused sig before w (Undeclared at) = Behind before at × StuckAt before w × ((s : List ℕ) × (w ≡ Some (a_name s)) × (found sig s ≡ None))
 TextRefused sig before w (WrongArity at) = Miscounted sig before w at × StuckAt before w
-TextRefused sig before w (PastLimit at) = Behind before at × PastLimit before × ((k : Tok) × (w ≡ Some k) × (symbol k ≡ 1))
+TextRefused sig before w (PastLimit at) = Behind before at × BeyondLimit before × ((k : Tok) × (w ≡ Some k) × (symbol k ≡ 1))
 
 abbrev pub RefusedFor : Sig → List Tok → Wrong → SheetFault → Type 0
 RefusedFor sig before w (Text f) = TextRefused sig before w f

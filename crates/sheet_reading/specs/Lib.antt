@@ -1,3 +1,5 @@
+pub mod Heading
+pub mod Refusals
 pub mod Values
 pub mod Sheet
 pub mod Sides

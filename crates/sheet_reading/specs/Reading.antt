@@ -1,5 +1,5 @@
 -- How a sheet's text is read, token by token, and which token is refused.
-use Rattle.std.specs.Prelude.{ℕ, zero, suc, Bool, true, false, cond, not, ◌&&◌, ◌||◌, List, [], ◌∷◌, ◌++◌, length, Some, None, Ok, Err, codes, Option, Result, ◌==◌, nat_le, nat_lt}
+use Rattle.std.specs.Prelude.{ℕ, Bool, false, cond, ◌&&◌, ◌||◌, List, [], ◌∷◌, ◌++◌, length, Some, None, Ok, Err, codes, Option, Result, ◌==◌, nat_le, nat_lt}
 use Rattle.std.specs.Str.{bytes_eq}
 use Rattle.terms.specs.Term.{Term}
 use Rattle.terms.specs.Rule.{Rule}
@@ -9,12 +9,13 @@ use Rattle.reading.specs.declared.token.Mark.{Mark}
 use Rattle.reading.specs.declared.token.Mark.TheVariants.{Equals, Dash, Blank, LineEnd}
 use Rattle.reading.specs.declared.heading.Stage.TheVariants.{WantsName, HasName, WantsCount, HasCount, Done}
 use Rattle.reading.specs.declared.fault.TextFault.TheVariants.{BadNumber, Unexpected, WrongArity, PastLimit}
-use Rattle.reading.specs.declared.fault.SheetFault.{SheetFault}
-use Rattle.reading.specs.declared.fault.SheetFault.TheVariants.{Text}
 use Rattle.reading.specs.Tokens.{Tok, a_name, a_number, an_instrument, a_variable, a_mark, a_stray, tokens, mark_byte, origin, past}
 use Rattle.reading.specs.Numbers.{numbered}
-use Rattle.reading.specs.Reading.{Context, top, within, State, wants, opens, has}
-use Rattle.reading.specs.Heading.{Head, head_step, and_on, not_here, sheet_limit}
+use Rattle.reading.specs.Reading.{top, within, State, wants, opens, has}
+use Rattle.reading.specs.Heading.{Head, sheet_limit}
+use Rattle.sheet_reading.specs.declared.fault.SheetFault.{SheetFault}
+use Rattle.sheet_reading.specs.declared.fault.SheetFault.TheVariants.{Text}
+use Rattle.sheet_reading.specs.Heading.{head_step, and_on, not_here}
 use Rattle.sheet_reading.specs.Values.{Value, Grid, range_of}
 use Rattle.sheet_reading.specs.Sheet.{Sheet, Limits, limits}
 use Rattle.sheet_reading.specs.Sides.{Hand, on_left, on_right, side_step}

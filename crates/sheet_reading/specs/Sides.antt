@@ -1,16 +1,16 @@
 -- How a side of a rule is read: as a ticket is, but that variables too may stand where a term may begin, and that a side has its limits.
-use Rattle.std.specs.Prelude.{ℕ, zero, suc, ◌+◌, Bool, true, false, cond, ◌&&◌, List, None, Ok, Err, Option, Result, nat_lt}
+use Rattle.std.specs.Prelude.{ℕ, zero, suc, ◌+◌, Bool, cond, ◌&&◌, None, Ok, Err, Result, nat_lt}
 use Rattle.terms.specs.Term.{Term, variable, symbols_in}
 use Rattle.terms.specs.Signature.{Sig}
 use Rattle.terms.specs.Substitution.{occurrences, occurrences_in}
 use Rattle.reading.specs.declared.token.At.{At}
 use Rattle.reading.specs.declared.fault.TextFault.{TextFault}
-use Rattle.reading.specs.declared.fault.TextFault.TheVariants.{Unexpected, WrongArity, PastLimit}
-use Rattle.reading.specs.declared.fault.SheetFault.{SheetFault}
-use Rattle.reading.specs.declared.fault.SheetFault.TheVariants.{Text, Headless, Doubled, Unbound}
+use Rattle.reading.specs.declared.fault.TextFault.TheVariants.{PastLimit}
 use Rattle.reading.specs.Tokens.{Tok, a_name, a_number, an_instrument, a_variable, a_mark, a_stray}
 use Rattle.reading.specs.Reading.{Context, top, within, State, wants, opens, has, on_wants, on_opens, on_has}
-use Rattle.reading.specs.Heading.{and_on}
+use Rattle.sheet_reading.specs.declared.fault.SheetFault.{SheetFault}
+use Rattle.sheet_reading.specs.declared.fault.SheetFault.TheVariants.{Text, Headless, Doubled, Unbound}
+use Rattle.sheet_reading.specs.Heading.{and_on}
 use Rattle.sheet_reading.specs.Sheet.{Limits}
 
 -- the side that is read: the left one, or the right one beside this left one
