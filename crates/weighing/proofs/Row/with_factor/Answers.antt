@@ -7,4 +7,4 @@ pub invariant_of-result : goal.invariant_of-result
 invariant_of-result c =
     let r = c.args.self.now in
     let n = c.args.argument in
-    (r.low, (length-set r.factors n _ ∙ r.three, (factors_put r.factors n c.args.factor (omega arith) r.within c.requires.1, tt)))
+    record { low = r.low; three = length-set r.factors n _ ∙ r.three; within = factors_put r.factors n c.args.factor (omega arith) r.within c.requires.factor }
