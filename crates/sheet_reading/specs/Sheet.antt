@@ -1,6 +1,6 @@
 -- Sheets: operators, the values of one or two weighings, and rules; and their text.
 use Rattle.std.specs.Prelude.{◌≡◌, ℕ, ◌≤◌, ◌⊎◌, List, [], ◌∷◌, ◌++◌, length, codes}
-use Rattle.std.specs.List.{AllByRecursion as All}
+use Rattle.std.specs.List.{AllByRecursion}
 use Rattle.terms.specs.Term.{Term, symbols}
 use Rattle.terms.specs.Rule.{Rule, RuleOf, levels}
 use Rattle.terms.specs.Signature.{Sig, Declared}
@@ -19,7 +19,7 @@ pub record SheetShaped (s : Sheet) : Type 0 where
   pub some_operators : 1 ≤ length s.operators
   pub one_or_two : (length s.values ≡ 4) ⊎ (length s.values ≡ 8)
   pub in_range : GridIn 0 s.operators s.values
-  pub lawful : All (RuleOf s.operators) s.rules
+  pub lawful : AllByRecursion (RuleOf s.operators) s.rules
 
 -- how many operators and rules a sheet may have, and how many symbols and levels a side
 pub record Limits : Type 0 where
@@ -38,7 +38,7 @@ SideWithin m t = (symbols t ≤ m.symbols) × (levels t ≤ m.levels)
 pub record SheetWithin (m : Limits) (s : Sheet) : Type 0 where
   pub few_operators : length s.operators ≤ m.operators
   pub few_rules : length s.rules ≤ m.rules
-  pub small_sides : All (λ r. SideWithin m r.left × SideWithin m r.right) s.rules
+  pub small_sides : AllByRecursion (λ r. SideWithin m r.left × SideWithin m r.right) s.rules
 
 abbrev pub rule_text : Sig → Rule → List ℕ
 rule_text sig r = text_of sig r.left ++ (61 ∷ (text_of sig r.right ++ (10 ∷ [])))
