@@ -1,5 +1,5 @@
 -- Lines of the input, byte by byte.
-use Rattle.std.proofs.Common.{◌≡◌, ℕ, ◌+◌, ◌<◌, ◌≤◌, Bool, true, false, cond, not, ◌&&◌, eqb, List, [], ◌∷◌, ◌++◌, length, get_or, take, drop, set, Some, None, sym, refl, ap, ◌∙◌, arith, length-take}
+use Rattle.std.proofs.Common.{◌≡◌, ℕ, ◌+◌, ◌<◌, ◌≤◌, Bool, true, false, cond, not, eqb, List, [], ◌∷◌, ◌++◌, length, get_or, take, drop, set, Some, None, sym, refl, ap, ◌∙◌, arith, length-take}
 use Rattle.std.proofs.lemmas.List.{take_more_set, take_more, take_all, drop_more, take-append-drop}
 use Rattle.std.proofs.lemmas.Bool.{cond-true, lt-ltb, and_from, and_parts, not_from_false, ne_eqb}
 use Rattle.console.specs.Lines.{Seen, whole_line, overlong_line, one_more, more, no_line_end, Taken}

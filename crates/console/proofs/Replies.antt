@@ -1,5 +1,5 @@
 -- The answer to a ticket.
-use Rattle.std.proofs.Common.{◌≡◌, ℕ, ◌-◌, ◌<◌, ◌≤◌, List, [], ◌∷◌, ◌++◌, length, take, drop, Ok, Err, codes, IsUtf8, decimal, Result, sym, refl, ap, ◌∙◌, subst, arith}
+use Rattle.std.proofs.Common.{◌≡◌, ℕ, ◌-◌, ◌≤◌, List, length, take, drop, Ok, Err, IsUtf8, sym, ap, ◌∙◌, subst, arith}
 use Rattle.std.proofs.lemmas.List.{take_at}
 use Rattle.std.proofs.lemmas.Str.{IsUtf8-from_ascii}
 use Rattle.terms.specs.declared.layout.Layout.{Layout}
@@ -16,7 +16,7 @@ use Rattle.reader.specs.Ticket.{LaidTicket}
 use Rattle.console.specs.Replies.{Showable}
 use Rattle.traversal.specs.declared.unwritten.Unwritten.{Unwritten}
 use Rattle.traversal.specs.declared.unwritten.Unwritten.TheVariants.{NoTerm, TooShort}
-use Rattle.traversal.specs.Walks.{most_symbols, StandsWith, Written}
+use Rattle.traversal.specs.Walks.{most_symbols, Written}
 
 pub few_symbols : (n : ℕ) → n ≤ 2048 → n ≤ most_symbols
 unfolding most_symbols

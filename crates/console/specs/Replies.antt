@@ -1,5 +1,5 @@
 -- What the program answers to a line.
-use Rattle.std.specs.Prelude.{◌≡◌, ℕ, ◌≤◌, List, [], ◌∷◌, ◌++◌, length, Ok, Err, codes, decimal, Result}
+use Rattle.std.specs.Prelude.{◌≡◌, ℕ, ◌≤◌, List, ◌++◌, length, Ok, Err, codes, decimal, Result}
 use Rattle.terms.specs.Term.{Term, symbols}
 use Rattle.terms.specs.declared.layout.Layout.{Layout}
 use Rattle.terms.specs.Signature.{Sig}
@@ -10,7 +10,6 @@ use Rattle.terms.specs.Layout.{in_use}
 use Rattle.terms.specs.Text.{text_of}
 use Rattle.reading.specs.declared.fault.TextFault.{TextFault}
 use Rattle.reading.specs.declared.fault.TextFault.TheVariants.{PastLimit}
-use Rattle.reading.specs.declared.refusal.Refusal.{Refusal}
 use Rattle.reading.specs.Tokens.{origin}
 use Rattle.reading.specs.Refusals.{text_refusal, refusal_text}
 use Rattle.reading.specs.Reading.{read_ticket}

@@ -1,25 +1,24 @@
 -- The loop that reads a ticket.
-use Rattle.std.proofs.Common.{◌≡◌, ℕ, ◌+◌, ◌<◌, ◌≤◌, Bool, true, false, cond, leb, List, [], ◌∷◌, ◌++◌, length, Some, None, Ok, Err, Result, sym, refl, ap, ◌∙◌, subst, arith, length-append}
+use Rattle.std.proofs.Common.{◌≡◌, ℕ, ◌+◌, ◌<◌, ◌≤◌, List, [], length, None, Ok, Err, Result, sym, ap, ◌∙◌, subst, arith, length-append}
 use Rattle.std.proofs.lemmas.Bool.{cond-true, cond-false, le-leb, lt-leb}
 use Rattle.terms.specs.declared.layout.Layout.{Layout}
 use Rattle.terms.specs.Term.{Term}
 use Rattle.terms.specs.Signature.{Sig, Declared}
-use Rattle.terms.specs.Ticket.{Ticket}
-use Rattle.terms.specs.Layout.{in_use, LaysOut}
+use Rattle.terms.specs.Layout.{in_use}
 use Rattle.terms.proofs.Laying.{length-laid, ticket_narrow, laid_stands}
 use Rattle.reading.specs.declared.token.At.{At}
 use Rattle.reading.specs.declared.fault.TextFault.{TextFault}
 use Rattle.reading.specs.declared.fault.TextFault.TheVariants.{PastLimit}
 use Rattle.reading.specs.Tokens.{Tok, token_bytes, tokens, origin, past}
 use Rattle.reading.specs.Reading.{State, wants, top, step, chain, ending, run, ticket_limit, read_ticket}
-use Rattle.reading.specs.Laws.{Explained, TicketLaw}
+use Rattle.reading.specs.Laws.{Explained}
 use Rattle.reading.proofs.Reading.{ticket_law}
 use Rattle.reader.specs.declared.token.Lexeme.{Lexeme}
 use Rattle.reader.specs.declared.token.Lexer.{Lexer}
 use Rattle.reader.specs.declared.parser.Parser.{Parser}
 use Rattle.reader.specs.Lexing.{meaning, what_is_left, now_at, ReadToken}
 use Rattle.reader.specs.Parsing.{Holds, Sparse, Stepped, Finished}
-use Rattle.reader.specs.Ticket.{LaidTicket, Reads}
+use Rattle.reader.specs.Ticket.{Reads}
 use Rattle.reader.proofs.Sparse.{sparse_step}
 
 -- the parser holds a state from which the rest of the text is read as the whole text is

@@ -1,20 +1,17 @@
 -- The parser from one state to the next.
-use Rattle.std.proofs.Common.{◌≡◌, ℕ, zero, suc, ◌+◌, ◌*◌, ◌<◌, ◌≤◌, Bool, true, false, List, [], ◌∷◌, ◌++◌, length, Some, None, Ok, Err, Option, Result, sym, refl, ap, ◌∙◌, subst, arith, length-append}
-use Rattle.terms.specs.declared.node.Node.{Node}
+use Rattle.std.proofs.Common.{◌≡◌, ℕ, zero, suc, ◌<◌, ◌≤◌, List, [], ◌∷◌, length, None, Ok, Option, sym, refl, ap, ◌∙◌, arith, length-append}
 use Rattle.terms.specs.declared.layout.Layout.{Layout}
-use Rattle.terms.specs.Term.{Term, variable, instrument, apply, Terms, nil, cons, symbols, symbols_in}
+use Rattle.terms.specs.Term.{Term, apply, nil}
 use Rattle.terms.specs.Nodes.{laid, with_next}
 use Rattle.terms.specs.Layout.{in_use, LaysOut}
 use Rattle.reading.specs.declared.token.At.{At}
-use Rattle.reading.specs.declared.fault.TextFault.{TextFault}
 use Rattle.reader.specs.declared.parser.Frame.{Frame}
 use Rattle.stack.specs.declared.Stack.{Stack as Pile}
-use Rattle.reader.specs.declared.parser.Phase.{Phase}
 use Rattle.reader.specs.declared.parser.Phase.TheVariants.{Wants, Opens, Has}
 use Rattle.reader.specs.declared.parser.Parser.{Parser}
 use Rattle.stack.specs.Stack.{content}
 use Rattle.reading.specs.Reading.{Context, top, within, State, wants, opens, has, and_then, closed, continued, ending}
-use Rattle.reader.specs.Parsing.{operator_node, linked, stack_nodes, stack_frames, state_nodes, Holds, Sparse, Roomy}
+use Rattle.reader.specs.Parsing.{operator_node, stack_nodes, stack_frames, Holds, Roomy}
 use Rattle.reader.proofs.Stacks.{closed_nodes, continued_nodes, fewer_frames}
 
 never_nil : {x : Frame} {xs : List Frame} → [] ≡ x ∷ xs → ⊥

@@ -1,11 +1,7 @@
 -- Runs of one class of bytes, and the first token of a text.
-use Rattle.std.proofs.Common.{◌≡◌, ℕ, zero, suc, ◌+◌, ◌-◌, ◌<◌, ◌≤◌, Bool, true, false, cond, ◌&&◌, eqb, leb, List, [], ◌∷◌, ◌++◌, length, get_or, take, drop, sym, refl, ap, ◌∙◌, subst, arith, drop-cons}
+use Rattle.std.proofs.Common.{◌≡◌, ℕ, zero, suc, ◌<◌, ◌≤◌, Bool, true, false, cond, List, [], ◌∷◌, length, get_or, take, drop, refl, ap, arith, drop-cons}
 use Rattle.std.proofs.lemmas.List.{drop_all}
-use Rattle.std.proofs.lemmas.Bool.{cond_both, cond-true, cond-false, and_parts, leb-true, eqb-true}
-use Rattle.terms.specs.Signature.{lower, digit, word}
-use Rattle.reading.specs.declared.token.Mark.{Mark}
-use Rattle.reading.specs.declared.token.Mark.TheVariants.{Opening, Closing, Comma, Equals, Dash, Blank, LineEnd}
-use Rattle.reading.specs.Tokens.{Tok, a_name, a_number, an_instrument, a_variable, a_mark, a_stray, front, single, first_token, token_bytes, mark_byte, mark_lines, lines, tokens_from, tokens}
+use Rattle.reading.specs.Tokens.{front}
 
 -- one byte more
 pub front_on : (p : ℕ → Bool) (bs : List ℕ) (k n m : ℕ) → n < length bs → k ≡ suc m → p (get_or bs n 0) ≡ true → length (front p k (drop n bs)) ≡ suc (length (front p m (drop (suc n) bs)))

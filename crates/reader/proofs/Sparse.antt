@@ -1,17 +1,17 @@
 -- A text has at least two bytes for each node, but for the last.
-use Rattle.std.proofs.Common.{◌≡◌, ℕ, zero, suc, ◌+◌, ◌*◌, ◌<◌, ◌≤◌, List, [], ◌∷◌, ◌++◌, length, get_or, Some, None, Ok, Err, Option, Result, sym, refl, ap, ◌∙◌, subst, arith, length-append, length-set}
+use Rattle.std.proofs.Common.{◌≡◌, ℕ, zero, suc, ◌+◌, ◌*◌, ◌≤◌, List, [], ◌∷◌, ◌++◌, length, get_or, Some, None, Ok, Err, Option, Result, refl, ap, subst, arith, length-append, length-set}
 use Rattle.terms.specs.declared.node.Node.{Node}
-use Rattle.terms.specs.Term.{Term, instrument, apply, Terms, nil, cons}
+use Rattle.terms.specs.Term.{Term}
 use Rattle.terms.specs.Signature.{Sig, op_of, found}
-use Rattle.terms.specs.Nodes.{vacant, laid}
+use Rattle.terms.specs.Nodes.{vacant}
 use Rattle.reading.specs.declared.token.At.{At}
 use Rattle.reading.specs.declared.token.Mark.{Mark}
 use Rattle.reading.specs.declared.token.Mark.TheVariants.{Opening, Closing, Comma, Equals, Dash, Blank, LineEnd}
 use Rattle.reading.specs.declared.fault.TextFault.{TextFault}
 use Rattle.reading.specs.Tokens.{Tok, a_name, a_number, an_instrument, a_variable, a_mark, a_stray}
 use Rattle.reading.specs.Numbers.{instrument_number}
-use Rattle.reading.specs.Reading.{Context, top, within, State, wants, opens, has, and_then, named, with_name, with_number, on_wants, on_opens_mark, on_opens, closed, continued, on_has_mark, on_has, step}
-use Rattle.reader.specs.Parsing.{operator_node, linked, stack_nodes, state_nodes, Sparse}
+use Rattle.reading.specs.Reading.{Context, top, within, State, wants, opens, has, named, with_name, with_number, on_wants, on_opens_mark, on_opens, closed, continued, on_has_mark, on_has, step}
+use Rattle.reader.specs.Parsing.{stack_nodes, state_nodes, Sparse}
 use Rattle.reader.proofs.Stacks.{closed_nodes, continued_nodes}
 
 -- the state that follows, if one does, is sparse at the place behind

@@ -1,13 +1,13 @@
 -- The nodes that the parser holds, from one state to the next.
-use Rattle.std.proofs.Common.{◌≡◌, ℕ, zero, suc, ◌+◌, ◌*◌, ◌<◌, ◌≤◌, List, [], ◌∷◌, ◌++◌, length, get_or, set, Some, None, Option, sym, refl, ap, ◌∙◌, subst, append_assoc, append-nil, arith, length-append}
+use Rattle.std.proofs.Common.{◌≡◌, ℕ, suc, ◌+◌, ◌≤◌, List, [], ◌∷◌, ◌++◌, length, set, Some, None, sym, refl, ap, ◌∙◌, append_assoc, append-nil, arith, length-append}
 use Rattle.std.proofs.lemmas.List.{get_or_at, set_at}
 use Rattle.terms.specs.declared.symbol.Symbol.{Symbol}
 use Rattle.terms.specs.declared.node.Node.{Node}
 use Rattle.terms.specs.Term.{Term, variable, instrument, apply, Terms, nil, cons, symbols, symbols_in}
 use Rattle.terms.specs.Nodes.{vacant, start, laid, laid_row, with_next}
 use Rattle.terms.proofs.Laying.{length-laid}
-use Rattle.reading.specs.Reading.{Context, top, within, State, wants, opens, has, and_then}
-use Rattle.reader.specs.Parsing.{operator_node, linked, stack_nodes, stack_frames, state_nodes, Leaf}
+use Rattle.reading.specs.Reading.{Context, top, within, and_then}
+use Rattle.reader.specs.Parsing.{operator_node, linked, stack_nodes, stack_frames, Leaf}
 
 start_then : (i : ℕ) (ts : Terms) (t : Term) → start i (and_then ts t) ≡ Some i
 start_then i nil t = refl

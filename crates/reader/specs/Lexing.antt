@@ -1,5 +1,5 @@
 -- What the code's tokens and lexer stand for.
-use Rattle.std.specs.Prelude.{◌≡◌, ℕ, ◌≤◌, Bool, true, false, List, [], ◌∷◌, ◌++◌, length, Some, None, Option}
+use Rattle.std.specs.Prelude.{◌≡◌, ℕ, ◌≤◌, Bool, List, [], ◌∷◌, ◌++◌, length, Some, None, Option}
 use Rattle.terms.specs.Signature.{digit, word}
 use Rattle.reading.specs.declared.token.At.{At}
 use Rattle.reader.specs.declared.token.Token.{Token}

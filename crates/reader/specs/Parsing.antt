@@ -1,5 +1,5 @@
 -- What the parser holds in each state of reading.
-use Rattle.std.specs.Prelude.{◌≡◌, ℕ, zero, suc, ◌+◌, ◌*◌, ◌<◌, ◌≤◌, List, [], ◌∷◌, ◌++◌, length, Some, None, Ok, Err, Option, Result}
+use Rattle.std.specs.Prelude.{◌≡◌, ℕ, suc, ◌+◌, ◌*◌, ◌<◌, ◌≤◌, List, [], ◌∷◌, ◌++◌, length, Some, None, Ok, Err, Result}
 use Rattle.terms.specs.declared.node.Node.{Node}
 use Rattle.terms.specs.declared.layout.Layout.{Layout}
 use Rattle.terms.specs.declared.symbol.Symbol.{Symbol}
@@ -7,7 +7,6 @@ use Rattle.terms.specs.declared.symbol.Symbol.TheVariants.{Variable, Instrument,
 use Rattle.terms.specs.Term.{Term, variable, instrument, apply, Terms, nil, cons, symbols}
 use Rattle.terms.specs.Nodes.{laid}
 use Rattle.terms.specs.Layout.{in_use, LaysOut}
-use Rattle.reading.specs.declared.token.At.{At}
 use Rattle.reading.specs.declared.fault.TextFault.{TextFault}
 use Rattle.reader.specs.declared.parser.Frame.{Frame}
 use Rattle.reader.specs.declared.parser.Phase.{Phase}

@@ -1,5 +1,5 @@
 -- What reading a ticket answers.
-use Rattle.std.specs.Prelude.{◌≡◌, ℕ, length, Ok, Err, Result}
+use Rattle.std.specs.Prelude.{◌≡◌, length, Ok, Err, Result}
 use Rattle.terms.specs.declared.layout.Layout.{Layout}
 use Rattle.terms.specs.Term.{Term, symbols}
 use Rattle.terms.specs.View.{Stands}

@@ -1,6 +1,6 @@
 -- What reading a ticket is, in the words of the subject.
 use Rattle.std.specs.Prelude.{◌≡◌, ℕ, ◌^◌, ◌<◌, ◌≤◌, true, false, ◌⊎◌, List, [], ◌∷◌, ◌++◌, length, take, drop, Some, None, Ok, Err, decimal, Option, Result, ◌≢◌}
-use Rattle.std.specs.List.{AllByRecursion as All}
+use Rattle.std.specs.List.{AllByRecursion}
 use Rattle.terms.specs.Term.{Term, Terms, nil, cons, how_many}
 use Rattle.terms.specs.Signature.{Sig, op_of, digit, found}
 use Rattle.terms.specs.Ticket.{Ticket, Tickets}
@@ -15,7 +15,7 @@ use Rattle.reading.specs.Numbers.{plain, numbered, instrument_number}
 use Rattle.reading.specs.Reading.{ticket_limit, read_ticket}
 
 abbrev pub AllDigits : List ℕ → Type 0
-AllDigits ds = All (λ d. digit d ≡ true) ds
+AllDigits ds = AllByRecursion (λ d. digit d ≡ true) ds
 
 -- digits are read as the number whose decimal they are, up to a largest one
 abbrev pub DecimalNumbers : Type 0

@@ -29,7 +29,7 @@ returns-in_err-step c =
     let m = c.next_token.new.self in
     let r = c.in-Some.ensures in
     let wrong = reads_wrong text l (head_of c.loop-lexeme.heading) x m c.in_err-step.field-0.0 r c.loop-lexeme.invariant (c.in_err-step.ensures (read_spelt l m x r)) in
-    let (y, e, q) = err_from_is_err_and c.from-residual.result c.from-residual.ensures.1 in
+    let (y, e, q) = err_from_is_err_and c.from_residual.result c.from_residual.ensures.1 in
     record { reads = subst (λ z. Heads z (read_heading text)) (sym e) (short_sheet text (omega arith) ∙ wrong ∙ ap Err (sym q)); law = heading_law text }
 
 pub returns : goal.returns

@@ -1,4 +1,4 @@
-use Rattle.std.proofs.Common.{suc, ◌+◌, ◌-◌, drop, sym, ◌∙◌, add-one, arith}
+use Rattle.std.proofs.Common.{suc, ◌-◌, drop, sym, add-one, arith}
 use Rattle.reader.specs.Lexing.{in_class}
 use Rattle.reader.proofs.Runs.{front_on, front_off, front_end, front_none}
 use Rattle.reader.proofs.lexer.run_len.Goals as goal

@@ -1,4 +1,4 @@
-use Rattle.std.proofs.Common.{◌≡◌, Ok, Err, sym, refl, ap, ◌∙◌, subst, arith}
+use Rattle.std.proofs.Common.{Err, sym, refl, ap, ◌∙◌, subst, arith}
 use Rattle.std.proofs.lemmas.Result.{err_from_is_err_and}
 use Rattle.signature.specs.Declaring.{sig_of}
 use Rattle.signature.proofs.Operators.{declared}
@@ -6,7 +6,7 @@ use Rattle.reading.specs.Reading.{read_ticket}
 use Rattle.reader.specs.Parsing.{Finished}
 use Rattle.reading.proofs.Reading.{ticket_law}
 use Rattle.reader.specs.Ticket.{Reads}
-use Rattle.reader.proofs.Going.{Going, less_left, ready, going_on, going_wrong, going_end, short_text, long_text, answered}
+use Rattle.reader.proofs.Going.{less_left, ready, going_on, going_wrong, going_end, short_text, long_text, answered}
 use Rattle.reader.proofs.ticket.read_ticket.Goals as goal
 
 pub returns-then-text-gt-TICKET_BYTES : goal.returns-then-text-gt-TICKET_BYTES
@@ -41,7 +41,7 @@ returns-in_err-step c =
     let g = c.loop-lexeme.invariant in
     let r = c.in-Some.ensures in
     let wrong = going_wrong sig text l p x m c.in_err-step.field-0.0 g r (c.in_err-step.ensures g.state g.holds (ready sig text l p x m g r)) in
-    let (y, e, q) = err_from_is_err_and c.from-residual.result c.from-residual.ensures.1 in
+    let (y, e, q) = err_from_is_err_and c.from_residual.result c.from_residual.ensures.1 in
     record {
       reads = subst (λ z. Reads z (read_ticket sig text)) (sym e) (short_text sig text (omega arith) ∙ wrong ∙ ap Err (sym q));
       law = ticket_law sig (declared s) text;

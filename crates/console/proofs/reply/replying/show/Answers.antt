@@ -1,4 +1,4 @@
-use Rattle.std.proofs.Common.{◌≡◌, ℕ, List, ◌++◌, codes, decimal, sym, ap, ◌∙◌, arith}
+use Rattle.std.proofs.Common.{ℕ, List, ◌++◌, codes, decimal, ap, ◌∙◌, arith}
 use Rattle.terms.specs.Term.{symbols}
 use Rattle.signature.specs.Declaring.{sig_of}
 use Rattle.terms.specs.Nodes.{node_answers}

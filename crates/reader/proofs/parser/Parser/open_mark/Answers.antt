@@ -1,4 +1,4 @@
-use Rattle.std.proofs.Common.{◌≡◌, ℕ, length, sym, refl, ap, ◌∙◌, arith}
+use Rattle.std.proofs.Common.{length, ap, arith}
 use Rattle.reading.specs.Reading.{wants, within, on_opens_mark}
 use Rattle.terms.specs.Term.{nil}
 use Rattle.reader.proofs.Parsing.{room_to_open, open_holds}

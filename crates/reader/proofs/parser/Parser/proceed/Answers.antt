@@ -1,4 +1,4 @@
-use Rattle.std.proofs.Common.{◌≡◌, length, sym, refl, ap, ◌∙◌, arith}
+use Rattle.std.proofs.Common.{length, ap, arith}
 use Rattle.reader.proofs.Parsing.{room_to_continue, continue_holds}
 use Rattle.reader.proofs.parser.Parser.proceed.Goals as goal
 

@@ -1,4 +1,4 @@
-use Rattle.std.proofs.Common.{◌≡◌, [], ◌∷◌, ◌++◌, length, Some, None, sym, refl, ap, ◌∙◌}
+use Rattle.std.proofs.Common.{[], ◌∷◌, ◌++◌, length, None, sym, refl, ap, ◌∙◌}
 use Rattle.terms.specs.declared.node.Node.{Node}
 use Rattle.reader.specs.declared.parser.Phase.TheVariants.{Has}
 use Rattle.reading.specs.Reading.{has}

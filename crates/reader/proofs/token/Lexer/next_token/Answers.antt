@@ -1,9 +1,9 @@
-use Rattle.std.proofs.Common.{◌≡◌, ◌+◌, ◌≤◌, ◌∷◌, ◌++◌, length, drop, sym, refl, ap, ◌∙◌, arith, length-drop, rules}
+use Rattle.std.proofs.Common.{◌≡◌, ◌+◌, ◌≤◌, ◌∷◌, ◌++◌, length, drop, sym, ap, ◌∙◌, arith, length-drop, rules}
 use Rattle.std.proofs.lemmas.Slice.{between_to_end}
 use Rattle.reading.specs.declared.token.At.{At}
 use Rattle.reading.specs.Tokens.{tokens, token_bytes, lines}
 use Rattle.reader.specs.Lexing.{meaning}
-use Rattle.reading.proofs.Tokens.{Steps, tokens_step}
+use Rattle.reading.proofs.Tokens.{tokens_step}
 use Rattle.reader.proofs.token.Lexer.next_token.Goals as goal
 
 pub slice_bounds-self-count : goal.slice_bounds-self-count
@@ -25,7 +25,7 @@ invariant_of-self c =
     let bs = c.args.self.now.rest.now in
     let s = tokens_step bs (meaning c.in-Some.token) c.in-Some.ensures in
     let long = ap length (between_to_end bs c.width-width.result (length bs) (omega arith)) ∙ length-drop c.width-width.result bs in
-    (omega (arith, long, c.args.self.now.fits), (omega (arith, c.args.self.now.few), tt))
+    record { fits = omega (arith, long, c.args.self.now.fits); few = omega (arith, c.args.self.now.few) }
 
 pub returns : goal.returns
 returns c =
