@@ -1,0 +1,5 @@
+pub mod Terms
+pub mod Sides
+pub mod Rules
+pub mod Admissible
+pub mod Sheet

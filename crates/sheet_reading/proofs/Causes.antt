@@ -1,0 +1,57 @@
+-- Why a token, or the end, is refused: what a refusal says besides that no sheet goes on.
+use Rattle.std.proofs.Common.{◌≡◌, ℕ, ◌⊎◌, List, Some, None, Option, refl, inl, inr}
+use Rattle.std.proofs.lemmas.Bool.{cond_both}
+use Rattle.terms.specs.Signature.{Sig, found}
+use Rattle.reading.specs.declared.token.At.{At}
+use Rattle.reading.specs.declared.fault.TextFault.{TextFault}
+use Rattle.reading.specs.declared.fault.TextFault.TheVariants.{Stray, BadNumber, Unexpected, Undeclared, WrongArity, PastLimit}
+use Rattle.reading.specs.Tokens.{Tok, a_name, a_number, an_instrument, a_variable, a_mark, a_stray}
+use Rattle.reading.specs.Numbers.{plain, instrument_number}
+use Rattle.reading.specs.Reading.{unless_some, fault_of}
+use Rattle.reading.specs.Laws.{Wrong}
+use Rattle.sheet_reading.specs.declared.fault.SheetFault.{SheetFault}
+use Rattle.sheet_reading.specs.declared.fault.SheetFault.TheVariants.{Text, Repeated, Headless, Doubled, Unbound}
+use Rattle.sheet_reading.specs.Laws.{Behind, symbol, WholeSheet, StuckAt, names_on, BeyondLimit, Miscounted, InLeft, NotInLeft, RefusedFor}
+use Rattle.sheet_reading.proofs.SideFacts.{OfLimit}
+
+abbrev pub TextCause : Sig → List Tok → Wrong → TextFault → Type 0
+TextCause sig before w (Stray at) = Behind before at × ((b : ℕ) × (w ≡ Some (a_stray b)))
+TextCause sig before w (BadNumber at) = Behind before at × ((s : List ℕ) × ((w ≡ Some (a_number s)) ⊎ (w ≡ Some (an_instrument s))))
+TextCause sig before w (Unexpected at) = Behind before at
+TextCause sig before w (Undeclared at) = Behind before at × ((s : List ℕ) × (w ≡ Some (a_name s)) × (found sig s ≡ None))
+TextCause sig before w (WrongArity at) = Miscounted sig before w at
+TextCause sig before w (PastLimit at) = Behind before at × BeyondLimit before × ((k : Tok) × (w ≡ Some k) × (symbol k ≡ 1))
+
+abbrev pub Cause : Sig → List Tok → Wrong → SheetFault → Type 0
+Cause sig before w (Text f) = TextCause sig before w f
+Cause sig before w (Repeated at) = Behind before at × ((names : Sig) × (s : List ℕ) × (f : ℕ) × (before ≡ names_on names) × (w ≡ Some (a_name s)) × (found names s ≡ Some f))
+Cause sig before w (Headless at) = Behind before at × WholeSheet before
+Cause sig before w (Doubled at) = Behind before at × ((x : ℕ) × (w ≡ Some (a_variable x)) × InLeft x before)
+Cause sig before w (Unbound at) = Behind before at × ((x : ℕ) × (w ≡ Some (a_variable x)) × NotInLeft x before)
+
+-- with that no sheet goes on, but for a limit, it is a whole refusal
+pub refused_for : (sig : Sig) (before : List Tok) (w : Wrong) (f : SheetFault) → Cause sig before w f → ((OfLimit f → ⊥) → StuckAt before w) → RefusedFor sig before w f
+refused_for sig before w (Text (Stray at)) c h = (c.0, h (λ z. z), c.1)
+refused_for sig before w (Text (BadNumber at)) c h = (c.0, h (λ z. z), c.1)
+refused_for sig before w (Text (Unexpected at)) c h = (c, h (λ z. z))
+refused_for sig before w (Text (Undeclared at)) c h = (c.0, h (λ z. z), c.1)
+refused_for sig before w (Text (WrongArity at)) c h = (c, h (λ z. z))
+refused_for sig before w (Text (PastLimit at)) c h = c
+refused_for sig before w (Repeated at) c h = (c.0, h (λ z. z), c.1)
+refused_for sig before w (Headless at) c h = (c.0, h (λ z. z), c.1)
+refused_for sig before w (Doubled at) c h = (c.0, h (λ z. z), c.1)
+refused_for sig before w (Unbound at) c h = (c.0, h (λ z. z), c.1)
+
+module _ (sig : Sig) (before : List Tok) (at : At) (p : Behind before at) where
+  own_instrument : (s : List ℕ) (o : Option ℕ) → TextCause sig before (Some (an_instrument s)) (unless_some o at (Unexpected at))
+  own_instrument s None = (p, (s, inr refl))
+  own_instrument s (Some n) = p
+
+  -- a token that is not allowed
+  pub not_here_cause : (k : Tok) → TextCause sig before (Some k) (fault_of k at (Unexpected at))
+  not_here_cause (a_name s) = p
+  not_here_cause (a_number s) = cond_both (plain s) (Unexpected at) (BadNumber at) (TextCause sig before (Some (a_number s))) (λ _. p) (λ _. (p, (s, inl refl)))
+  not_here_cause (an_instrument s) = own_instrument s (instrument_number s)
+  not_here_cause (a_variable x) = p
+  not_here_cause (a_mark m) = p
+  not_here_cause (a_stray b) = (p, (b, refl))

@@ -1,0 +1,49 @@
+-- The tokens of a line of values, with blanks between, and of a heading.
+use Rattle.std.proofs.Common.{◌≡◌, ℕ, ◌<◌, ◌≤◌, true, false, leb, List, [], ◌∷◌, ◌++◌, map, length, decimal, sym, refl, ap, ◌∙◌, append_assoc, arith, length-append}
+use Rattle.std.specs.List.{AllByRecursion as All}
+use Rattle.std.proofs.lemmas.Fmt.{decimal_nonempty}
+use Rattle.std.proofs.ByRecursion.{All-weaker, All-from_get_or}
+use Rattle.std.proofs.lemmas.Bool.{cond-true, cond-false, and_parts, and_left, leb-true, lt-leb}
+use Rattle.terms.specs.Signature.{Sig, lower, digit, word, spelt, Declared}
+use Rattle.reading.specs.declared.token.Mark.TheVariants.{Blank}
+use Rattle.reading.specs.Tokens.{Tok, a_number, a_mark, tokens}
+use Rattle.reading.specs.Laws.{AllDigits}
+use Rattle.reading.proofs.Digits.{all_digits_decimal}
+use Rattle.reading.proofs.Lexing.{Stops, front_is, tokens_first, tokens_name, stops_digit}
+use Rattle.reading.proofs.Lines.{line, name_tok, count_tok, heading_tokens, all_ranked}
+use Rattle.sheet_reading.specs.Heading.{line_of, heading_text}
+
+digit_not_lower : (b : ℕ) → digit b ≡ true → lower b ≡ false
+digit_not_lower b h = and_left (leb 97 b) (leb b 122) (lt-leb 97 b (omega (arith, leb-true b 57 (and_parts (leb 48 b) (leb b 57) h).1)))
+
+pub tokens_number : (s r : List ℕ) → 0 < length s → AllDigits s → Stops word r → tokens (s ++ r) ≡ a_number s ∷ tokens r
+tokens_number [] r n h e = absurd (omega arith)
+tokens_number (b ∷ bs) r n h e =
+    tokens_first b bs r (a_number (b ∷ bs))
+    (cond-false _ _ _ (digit_not_lower b h.0) ∙ cond-true _ _ _ h.0 ∙ ap (λ l. a_number (b ∷ l)) (front_is digit (length (bs ++ r)) bs r h.1 (omega (arith, length-append bs r)) (stops_digit r e))) refl
+
+-- a part's token is read, whatever follows that does not go on with it
+abbrev pub Shows : {A : Type 0} → (A → List ℕ) → (A → Tok) → A → Type 0
+Shows show k x = (r : List ℕ) → Stops word r → tokens (show x ++ r) ≡ k x ∷ tokens r
+
+pub tokens_line : {A : Type 0} (show : A → List ℕ) (k : A → Tok) (xs : List A) → All (Shows show k) xs → (r : List ℕ) → tokens (line_of show xs ++ r) ≡ line (map k xs) ++ tokens r
+tokens_line show k [] h r = refl
+tokens_line show k (x ∷ []) h r = ap tokens (append_assoc (show x) (10 ∷ []) r) ∙ h.0 (10 ∷ r) refl
+tokens_line show k (x ∷ y ∷ xs) h r =
+    ap tokens (append_assoc (show x) (32 ∷ line_of show (y ∷ xs)) r)
+    ∙ h.0 (32 ∷ (line_of show (y ∷ xs) ++ r)) refl
+    ∙ ap (λ l. k x ∷ (a_mark Blank ∷ l)) (tokens_line show k (y ∷ xs) h.1 r)
+
+module _ {sig : Sig} (good : Declared sig) where
+  all_spelt : All (λ o. spelt o.name ≡ true) sig
+  all_spelt = All-from_get_or (λ o. spelt o.name ≡ true) sig _ good.are_spelt
+
+  pub tokens_heading : (r : List ℕ) → tokens (heading_text sig ++ r) ≡ heading_tokens sig ++ tokens r
+  tokens_heading r =
+      let names : All (Shows (λ o. o.name) name_tok) sig = All-weaker (λ o. spelt o.name ≡ true) (Shows (λ o. o.name) name_tok) (λ o h r e. tokens_name o.name r h e) sig all_spelt in
+      let counts : All (Shows (λ o. decimal o.arity) count_tok) sig = All-weaker (λ o. o.arity ≤ 3) (Shows (λ o. decimal o.arity) count_tok)
+      (λ o h r e. tokens_number (decimal o.arity) r (decimal_nonempty o.arity (omega arith)) (all_digits_decimal o.arity (omega arith)) e) sig (all_ranked good) in
+      ap tokens (append_assoc (line_of (λ o. o.name) sig) (line_of (λ o. decimal o.arity) sig) r)
+      ∙ tokens_line (λ o. o.name) name_tok sig names (line_of (λ o. decimal o.arity) sig ++ r)
+      ∙ ap (λ l. line (map name_tok sig) ++ l) (tokens_line (λ o. decimal o.arity) count_tok sig counts r)
+      ∙ sym (append_assoc (line (map name_tok sig)) (line (map count_tok sig)) (tokens r))

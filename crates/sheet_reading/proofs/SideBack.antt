@@ -1,0 +1,190 @@
+-- A side's tokens are read as that side.
+use Rattle.std.proofs.Common.{◌≡◌, ℕ, suc, ◌+◌, ◌<◌, ◌≤◌, true, List, [], ◌∷◌, ◌++◌, Some, None, Ok, Err, Option, Result, sym, refl, ap, ◌∙◌, arith}
+use native.Mathlib.Nat.{le-max_left, le-max_right}
+use Rattle.std.proofs.lemmas.Bool.{cond-true, cond-false, and_from, lt-ltb, le-ltb, eq-eqb}
+use Rattle.terms.specs.Term.{Term, variable, instrument, apply, Terms, nil, cons, how_many, symbols, symbols_in}
+use Rattle.terms.specs.Rule.{levels, levels_in, OperatorFirst}
+use Rattle.terms.specs.Signature.{Sig, op_of, Declared}
+use Rattle.terms.specs.Ticket.{TermOf, TermsOf}
+use Rattle.terms.specs.Text.{text_of}
+use Rattle.terms.specs.Substitution.{occurrences, occurrences_in}
+use Rattle.reading.specs.declared.token.At.{At}
+use Rattle.reading.specs.declared.token.Mark.TheVariants.{Opening, Closing, Comma}
+use Rattle.reading.specs.Tokens.{Tok, a_name, a_mark, tokens, past}
+use Rattle.reading.specs.Reading.{Context, top, within, State, wants, has, and_then, named, with_number}
+use Rattle.reading.specs.Laws.{further_arguments, arguments_so_far}
+use Rattle.reading.proofs.Digits.{numbered_decimal}
+use Rattle.reading.proofs.Lexing.{closing}
+use Rattle.reading.proofs.Running.{passed}
+use Rattle.reading.proofs.Back.{name_step}
+use Rattle.sheet_reading.specs.declared.fault.SheetFault.{SheetFault}
+use Rattle.sheet_reading.specs.Heading.{and_on}
+use Rattle.sheet_reading.specs.Sheet.{Limits, SideWithin}
+use Rattle.sheet_reading.specs.Sides.{Hand, on_left, on_right, symbols_before, depth, occurrences_before, room, within_room, in_text, fronted, variable_on, side_step}
+use Rattle.sheet_reading.proofs.Lexing.{tokens_term}
+use Rattle.sheet_reading.proofs.SideFacts.{HandShaped, side_reach}
+use Rattle.sheet_reading.proofs.SideStates.{MayStand, Fronted}
+use Rattle.sheet_reading.proofs.SideSteps.{front_within}
+
+abbrev join : Terms → Terms → Terms
+join nil us = us
+join (cons t ts) us = cons t (join ts us)
+
+join_then : (us : Terms) (u : Term) (ts : Terms) → join (and_then us u) ts ≡ join us (cons u ts)
+join_then nil u ts = refl
+join_then (cons v us) u ts = ap (cons v) (join_then us u ts)
+
+join_nil : (us : Terms) → join us nil ≡ us
+join_nil nil = refl
+join_nil (cons u us) = ap (cons u) (join_nil us)
+
+then_join : (us : Terms) (u : Term) → and_then us u ≡ join us (cons u nil)
+then_join us u = sym (join_nil (and_then us u)) ∙ join_then us u nil
+
+-- a run comes to the last of these arguments of f, with n to follow
+abbrev Leads : Result State SheetFault → ℕ → At → ℕ → Context → Terms → Type 0
+Leads r f a n k ts = (us : Terms) × (u : Term) × (m : Option At) × (and_then us u ≡ ts) × (r ≡ Ok (has u m (within f a us n k)))
+
+symbols_then : (ts : Terms) (t : Term) → symbols_in (and_then ts t) ≡ symbols_in ts + symbols t
+symbols_then nil t = omega arith
+symbols_then (cons u ts) t = omega (arith, symbols_then ts t)
+
+occurrences_then : (x : ℕ) (ts : Terms) (t : Term) → occurrences_in x (and_then ts t) ≡ occurrences_in x ts + occurrences x t
+occurrences_then x nil t = omega arith
+occurrences_then x (cons u ts) t = omega (arith, occurrences_then x ts t)
+
+fewer : (d : Hand) (x i n : ℕ) → i ≤ n → MayStand d x n → MayStand d x i
+fewer on_left x i n l h = omega arith
+fewer (on_right t) x i n l h = λ p. h (omega arith)
+
+-- a term may come in a context: within limits, and with variables that may stand there
+pub record Fits (m : Limits) (d : Hand) (t : Term) (k : Context) : Type 0 where
+  pub few : symbols t + symbols_before k ≤ m.symbols
+  pub low : levels t + depth k ≤ m.levels
+  pub may_stand : (x : ℕ) → MayStand d x (occurrences x t + occurrences_before x k)
+  pub in_front : Fronted d (has t None k)
+
+-- a row of arguments may come behind other ones
+pub record RowFits (m : Limits) (d : Hand) (ts us : Terms) (k : Context) : Type 0 where
+  pub few : symbols_in ts + suc (symbols_in us) + symbols_before k ≤ m.symbols
+  pub low : levels_in ts + suc (depth k) ≤ m.levels
+  pub may_stand : (x : ℕ) → MayStand d x (occurrences_in x ts + occurrences_in x us + occurrences_before x k)
+
+fits_arguments : (m : Limits) (d : Hand) (f : ℕ) (ts : Terms) (k : Context) → Fits m d (apply f ts) k → RowFits m d ts nil k
+fits_arguments m d f ts k h = record { few = omega (arith, h.few); low = omega (arith, h.low); may_stand = λ x. fewer d x _ _ (omega arith) (h.may_stand x) }
+
+fits_first : (m : Limits) (d : Hand) (t : Term) (ts us : Terms) (f : ℕ) (a : At) (n : ℕ) (k : Context) → RowFits m d (cons t ts) us k → Fits m d t (within f a us n k)
+fits_first m d t ts us f a n k h = record {
+  few = omega (arith, h.few);
+  low = omega (arith, h.low, le-max_left (levels t) (levels_in ts));
+  may_stand = λ x. fewer d x _ _ (omega arith) (h.may_stand x);
+  in_front = front_within d t None f a us n k;
+}
+
+fits_rest : (m : Limits) (d : Hand) (t : Term) (ts us : Terms) (k : Context) → RowFits m d (cons t ts) us k → RowFits m d ts (and_then us t) k
+fits_rest m d t ts us k h = record {
+  few = omega (arith, h.few, symbols_then us t);
+  low = omega (arith, h.low, le-max_right (levels t) (levels_in ts));
+  may_stand = λ x. fewer d x _ _ (omega (arith, occurrences_then x us t)) (h.may_stand x);
+}
+
+-- what comes is not refused
+
+has_room : (m : Limits) (rules : ℕ) (k : Context) → rules < m.rules → symbols_before k < m.symbols → depth k < m.levels → room m rules k ≡ true
+has_room m rules k p q r = and_from _ _ (lt-ltb rules m.rules p) (and_from _ _ (lt-ltb (symbols_before k) m.symbols q) (lt-ltb (depth k) m.levels r))
+
+passes_front : (d : Hand) (t : Term) (k : Context) (at : At) (u : State) → (OperatorFirst t → ⊥) → Fronted d (has t None k) → fronted d k at u ≡ Ok u
+passes_front on_left t top at u n h = absurd (n h)
+passes_front on_left t (within f a ts i k) at u n h = refl
+passes_front (on_right l) t k at u n h = refl
+
+itself : (x : ℕ) → occurrences x (variable x) ≡ 1
+itself x = cond-true _ _ _ (eq-eqb x x refl)
+
+variable_stands : (d : Hand) (x : ℕ) (k : Context) (at : At) → MayStand d x (occurrences x (variable x) + occurrences_before x k) → variable_on d x k at ≡ Ok (has (variable x) None k)
+variable_stands on_left x k at h = cond-false _ _ _ (le-ltb 0 (occurrences_before x k) (omega (arith, itself x)))
+variable_stands (on_right l) x k at h = cond-true _ _ _ (lt-ltb 0 (occurrences x l) (h (omega (arith, itself x))))
+
+module _ {sig : Sig} (good : Declared sig) (m : Limits) (rules : ℕ) (room-for-rule : rules < m.rules) (d : Hand) where
+  abbrev reach : State → At → List Tok → Result State SheetFault
+  reach = side_reach m sig rules d
+
+  reach_append : (s : State) (at : At) (ks ls : List Tok) → reach s at (ks ++ ls) ≡ and_on (reach s at ks) (λ u. reach u (passed at ks) ls)
+  reach_append s at [] ls = refl
+  reach_append s at (k ∷ ks) ls =
+      elim (side_step m sig rules d s at k) as (λ r. and_on r (λ u. reach u (past at k) (ks ++ ls)) ≡ and_on (and_on r (λ u. reach u (past at k) ks)) (λ u. reach u (passed at (k ∷ ks)) ls))
+      [ Ok u ↦ reach_append u (past at k) ks ls | Err g ↦ refl ]
+
+  -- behind the first tokens, and from there behind the others
+  reach_join : (s : State) (at : At) (ks ls : List Tok) (v u : State) → reach s at ks ≡ Ok v → reach v (passed at ks) ls ≡ Ok u → reach s at (ks ++ ls) ≡ Ok u
+  reach_join s at ks ls v u e q = reach_append s at ks ls ∙ ap (λ r. and_on r (λ u. reach u (passed at ks) ls)) e ∙ q
+
+  -- some tokens are read as the term, wherever it fits
+  abbrev Reads : List Tok → Term → Type 0
+  Reads ks t = (k : Context) (at : At) → Fits m d t k → (b : Option At) × (reach (wants k) at ks ≡ Ok (has t b k))
+
+  -- further arguments are read on
+  abbrev Further : Terms → Type 0
+  Further ts = (us : Terms) (u : Term) (b : Option At) (f : ℕ) (a : At) (k : Context) (at : At) → RowFits m d ts (and_then us u) k
+      → Leads (reach (has u b (within f a us (how_many ts) k)) at (further_arguments sig ts)) f a 0 k (join us (cons u ts))
+
+  leads_row : (t : Term) (ts : Terms) → Reads (tokens (text_of sig t)) t → Further ts → (us : Terms) (f : ℕ) (a : At) (k : Context) (at : At) → RowFits m d (cons t ts) us k
+      → Leads (reach (wants (within f a us (how_many ts) k)) at (tokens (text_of sig t) ++ further_arguments sig ts)) f a 0 k (join us (cons t ts))
+  leads_row t ts h g us f a k at r =
+      let w : Context = within f a us (how_many ts) k in
+      let (b, p) = h w at (fits_first m d t ts us f a (how_many ts) k r) in
+      let (vs, v, c, q, e) = g us t b f a k (passed at (tokens (text_of sig t))) (fits_rest m d t ts us k r) in
+      (vs, v, c, q, reach_join (wants w) at (tokens (text_of sig t)) (further_arguments sig ts) (has t b w) (has v c (within f a vs 0 k)) p e)
+
+  closes : (s : State) (at : At) (ks : List Tok) (f : ℕ) (a : At) (k : Context) (ts : Terms) → Leads (reach s at ks) f a 0 k ts → (b : Option At) × (reach s at (ks ++ (a_mark Closing ∷ [])) ≡ Ok (has (apply f ts) b k))
+  closes s at ks f a k ts h =
+      let (us, u, b, e, q) = h in
+      (None, reach_join s at ks (a_mark Closing ∷ []) (has u b (within f a us 0 k)) (has (apply f ts) None k) q (ap (λ l. Ok (has (apply f l) None k)) e))
+
+  mutual
+    pub reads : (t : Term) → TermOf sig t → Reads (tokens (text_of sig t)) t
+    reads (variable x) h k at r = (
+      None,
+      ap (reach (wants k) at) (tokens_term good (variable x) h)
+          ∙ ap (λ q. and_on q (λ u. Ok u))
+          (cond-true _ _ _ (has_room m rules k room-for-rule (omega (arith, r.few)) (omega (arith, r.low)))
+          ∙ ap (λ q. and_on q (λ _. variable_on d x k at)) (passes_front d (variable x) k at (wants k) (λ z. z) r.in_front) ∙ variable_stands d x k at (r.may_stand x)),
+    )
+    reads (instrument n) h k at r = (
+      None,
+      ap (reach (wants k) at) (tokens_term good (instrument n) h)
+          ∙ ap (λ o. and_on (and_on (in_text (with_number o at k)) (λ u. within_room m rules k at (fronted d k at u))) (λ u. Ok u)) (numbered_decimal 999999 n (omega arith) h)
+          ∙ ap (λ q. and_on q (λ u. Ok u))
+          (cond-true _ _ _ (has_room m rules k room-for-rule (omega (arith, r.few)) (omega (arith, r.low)))
+          ∙ passes_front d (instrument n) k at (has (instrument n) None k) (λ z. z) r.in_front),
+    )
+    reads (apply f ts) h k at r =
+        let w : Tok = a_name (op_of sig f).name in
+        let ks : List Tok = arguments_so_far sig ts ++ closing ts in
+        let (b, e) = reads_arguments ts h.2 f at k (past at w) (fits_arguments m d f ts k r) in (
+          b,
+          ap (reach (wants k) at) (tokens_term good (apply f ts) h)
+              ∙ ap (λ q. and_on (and_on (in_text q) (λ u. within_room m rules k at (Ok u))) (λ u. reach u (past at w) ks)) (name_step good f h.0 k at)
+              ∙ ap (λ q. and_on q (λ u. reach u (past at w) ks)) (cond-true _ _ _ (has_room m rules k room-for-rule (omega (arith, r.few)) (omega (arith, r.low))))
+              ∙ ap (λ n. reach (named f n at k) (past at w) ks) (sym h.1) ∙ e,
+        )
+
+    reads_arguments : (ts : Terms) → TermsOf sig ts → (f : ℕ) (a : At) (k : Context) (at : At) → RowFits m d ts nil k → (b : Option At) × (reach (named f (how_many ts) a k) at (arguments_so_far sig ts ++ closing ts) ≡ Ok (has (apply f ts) b k))
+    reads_arguments nil h f a k at r = (Some a, refl)
+    reads_arguments (cons t ts) h f a k at r =
+        closes (wants (within f a nil (how_many ts) k)) (past at (a_mark Opening)) (tokens (text_of sig t) ++ further_arguments sig ts) f a k (cons t ts)
+        (leads_row t ts (reads t h.0) (reads_further ts h.1) nil f a k (past at (a_mark Opening)) r)
+
+    reads_further : (ts : Terms) → TermsOf sig ts → Further ts
+    reads_further nil h us u b f a k at r = (us, u, b, then_join us u, refl)
+    reads_further (cons t ts) h us u b f a k at r =
+        let (vs, v, c, q, e) = leads_row t ts (reads t h.0) (reads_further ts h.1) (and_then us u) f a k (past at (a_mark Comma)) r in
+        (vs, v, c, q ∙ join_then us u (cons t ts), e)
+
+  -- a side fits where it begins
+  fits_side : (t : Term) (d : Hand) → HandShaped sig d t → SideWithin m t → Fits m d t top × TermOf sig t
+  fits_side t on_left h w = (record { few = omega arith; low = omega arith; may_stand = λ x. omega (arith, h.linear x); in_front = h.operator_first }, h.is_term)
+  fits_side t (on_right l) h w = (record { few = omega arith; low = omega arith; may_stand = λ x p. h.bound x (omega arith); in_front = tt }, h.is_term)
+
+  pub back : (t : Term) (at : At) → HandShaped sig d t → SideWithin m t → (b : Option At) × (reach (wants top) at (tokens (text_of sig t)) ≡ Ok (has t b top))
+  back t at h w = let (r, i) = fits_side t d h w in reads t i top at r

@@ -1,0 +1,67 @@
+-- No sheet goes on with what is refused, but for a limit.
+use Rattle.std.proofs.Common.{◌≡◌, ℕ, ◌+◌, ◌≤◌, List, [], ◌∷◌, ◌++◌, length, Some, None, Ok, Err, sym, ap, ◌∙◌, subst, arith}
+use Rattle.std.specs.List.{AllByRecursion as All}
+use Rattle.terms.specs.Term.{Term, symbols}
+use Rattle.terms.specs.Rule.{Rule, levels}
+use Rattle.reading.specs.declared.heading.Stage.TheVariants.{WantsName}
+use Rattle.reading.specs.Tokens.{Tok, tokens, origin}
+use Rattle.reading.specs.Laws.{Wrong}
+use Rattle.reading.proofs.Equal.{not_both, same_ok}
+use Rattle.reading.proofs.Running.{passed}
+use Rattle.sheet_reading.specs.declared.fault.SheetFault.{SheetFault}
+use Rattle.sheet_reading.specs.Sheet.{Sheet, SheetShaped, Limits, limits, SheetWithin, sheet_text}
+use Rattle.sheet_reading.specs.Reading.{Stand, in_heading, sheet_step, sheet_end}
+use Rattle.sheet_reading.specs.Laws.{StuckAt}
+use Rattle.sheet_reading.proofs.SideFacts.{More, OfLimit}
+use Rattle.sheet_reading.proofs.Going.{reach, reach_split, reach_first, Refuses}
+use Rattle.sheet_reading.proofs.Written.{tokens_sheet}
+use Rattle.sheet_reading.proofs.Back.{behind_sheet, sheet_back}
+use Rattle.sheet_reading.proofs.SideLimits.{Stays}
+use Rattle.sheet_reading.proofs.Larger.{sheet_stays, reached}
+
+-- limits that a sheet is within
+
+abbrev total : (Term → ℕ) → List Rule → ℕ
+total f [] = 0
+total f (r ∷ rs) = f r.left + (f r.right + total f rs)
+
+abbrev wide : Sheet → Limits
+wide s = record { operators = 32 + length s.operators; rules = 32 + length s.rules; symbols = 32 + total symbols s.rules; levels = 16 + total levels s.rules }
+
+small : (a b : ℕ) (rs : List Rule) → total symbols rs ≤ a → total levels rs ≤ b → All (λ (r : Rule). ((symbols r.left ≤ a) × (levels r.left ≤ b)) × ((symbols r.right ≤ a) × (levels r.right ≤ b))) rs
+small a b [] h j = tt
+small a b (r ∷ rs) h j = (((omega arith, omega arith), (omega arith, omega arith)), small a b rs (omega arith) (omega arith))
+
+within_wide : (s : Sheet) → SheetWithin (wide s) s
+within_wide s = record { few_operators = omega arith; few_rules = omega arith; small_sides = small (32 + total symbols s.rules) (16 + total levels s.rules) s.rules (omega arith) (omega arith) }
+
+more_wide : (s : Sheet) → More limits (wide s)
+more_wide s = record { operators = omega arith; rules = omega arith; symbols = omega arith; levels = omega arith }
+
+abbrev pub start : Stand
+start = in_heading ([], WantsName)
+
+-- a sheet's tokens are read within wide limits
+read_wide : (t : Sheet) → SheetShaped t → reach (wide t) start origin (tokens (sheet_text t)) ≡ Ok (behind_sheet t)
+read_wide t h = ap (reach (wide t) start origin) (tokens_sheet t h) ∙ sheet_back (wide t) t h (within_wide t) origin
+
+module _ (ks : List Tok) (s : Stand) (there : reach limits start origin ks ≡ Ok s) where
+  -- so is the stand
+  there_wide : (t : Sheet) → reach (wide t) start origin ks ≡ Ok s
+  there_wide t = reached limits (wide t) (more_wide t) start origin ks s there
+
+  pub stuck : (w : Wrong) (f : SheetFault) → Refuses limits s (passed origin ks) w f → (OfLimit f → ⊥) → StuckAt ks w
+  stuck None f e free = λ b.
+      let (t, h, q) = b in
+      let same : s ≡ behind_sheet t = same_ok (sym (there_wide t) ∙ ap (reach (wide t) start origin) (sym q) ∙ read_wide t h) in
+      not_both (sym (ap (λ x. sheet_end x (passed origin ks)) same) ∙ e)
+  stuck (Some k) f e free = λ b.
+      let (t, h, more) = b in
+      let (rest, q) = more in
+      let n : Limits = wide t in
+      let (v, x, y) = reach_split n start origin (ks ++ (k ∷ [])) rest (behind_sheet t) (ap (reach n start origin) (sym q) ∙ read_wide t h) in
+      let (u, i, j) = reach_split n start origin ks (k ∷ []) v x in
+      let same : u ≡ s = same_ok (sym i ∙ there_wide t) in
+      let (z, a, c) = reach_first n u (passed origin ks) k [] v j in
+      let refused : sheet_step n s (passed origin ks) k ≡ Err f = subst (λ r. Stays r (sheet_step n s (passed origin ks) k)) e (sheet_stays limits n (more_wide t) s (passed origin ks) k) free in
+      not_both (sym a ∙ ap (λ x. sheet_step n x (passed origin ks) k) same ∙ refused)

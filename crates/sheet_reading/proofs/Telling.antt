@@ -1,0 +1,92 @@
+-- Each token that is accepted is one more of the tokens read, and one that is refused has its cause.
+use Rattle.std.proofs.Common.{◌≡◌, List, [], ◌∷◌, ◌++◌, Some, None, Ok, Err, sym, refl, ap, ◌∙◌, subst, append_assoc, append-nil, arith}
+use Rattle.std.specs.List.{AllByRecursion as All}
+use Rattle.terms.specs.Signature.{Sig}
+use Rattle.reading.specs.declared.token.At.{At}
+use Rattle.reading.specs.declared.heading.Stage.TheVariants.{WantsName, HasName, WantsCount, HasCount, Done}
+use Rattle.reading.specs.Tokens.{Tok, past}
+use Rattle.reading.specs.Reading.{top, within, wants, opens, has}
+use Rattle.reading.specs.Heading.{Head}
+use Rattle.reading.specs.Laws.{Wrong}
+use Rattle.reading.proofs.Equal.{no_some, not_both, same_ok, same_fault}
+use Rattle.reading.proofs.Lines.{heading_tokens}
+use Rattle.reading.proofs.Running.{passed}
+use Rattle.sheet_reading.specs.declared.fault.SheetFault.{SheetFault}
+use Rattle.sheet_reading.specs.Heading.{Outcome, head_step, and_on}
+use Rattle.sheet_reading.specs.Sheet.{limits}
+use Rattle.sheet_reading.specs.Sides.{on_left, on_right}
+use Rattle.sheet_reading.specs.Reading.{Stand, in_heading, wants_value, has_value, has_word, in_rule, headed, sheet_step, rule_end, sheet_end}
+use Rattle.sheet_reading.specs.Laws.{Behind}
+use Rattle.sheet_reading.proofs.Tokens.{Lexed}
+use Rattle.sheet_reading.proofs.Going.{reach, reach_first, Refuses}
+use Rattle.sheet_reading.proofs.Stands.{head_tokens, before_side, stand_tokens, behind_past}
+use Rattle.sheet_reading.proofs.Causes.{Cause}
+use Rattle.sheet_reading.proofs.SideTelling.{miscounted_opens}
+use Rattle.sheet_reading.proofs.Headings.{HeadGood, HeadSaid, said_head}
+use Rattle.sheet_reading.proofs.Goods.{Over, Ruled, Good, Said}
+use Rattle.sheet_reading.proofs.Valuing.{said_line, said_behind_value, said_behind_word}
+use Rattle.sheet_reading.proofs.Ruling.{said_rule}
+
+good_headed : (g : Head) → HeadGood g → Good (headed g)
+good_headed (sig, WantsName) h = h
+good_headed (sig, HasName) h = h
+good_headed (sig, WantsCount f) h = h
+good_headed (sig, HasCount f) h = h
+good_headed (sig, Done) h = (record { operators = h.0; some = h.1; in_range = tt; so_far = tt; at_most = omega arith; not_last = λ q. absurd (omega arith) }, h.1)
+
+headed_tokens : (g : Head) → stand_tokens (headed g) ≡ head_tokens g
+headed_tokens (sig, WantsName) = refl
+headed_tokens (sig, HasName) = refl
+headed_tokens (sig, WantsCount f) = refl
+headed_tokens (sig, HasCount f) = refl
+headed_tokens (sig, Done) = append-nil _ ∙ append-nil (heading_tokens sig)
+
+said_heading : (h : Head) (k : Tok) (r : Outcome) → HeadSaid h k r → Said (in_heading h) k (and_on r (λ g. Ok (headed g)))
+said_heading h k (Ok g) z = (good_headed g z.0, headed_tokens g ∙ z.1)
+said_heading h k (Err f) z = λ o _. z o
+
+pub said : (s : Stand) (at : At) (k : Tok) → Lexed k → Good s → Behind (stand_tokens s) at → Said s k (sheet_step limits s at k)
+said (in_heading h) at k l g p = said_heading h k (head_step 32 h at k) (said_head h at k l g p)
+said (wants_value sig grid vs) at k l g p = said_line sig grid at k vs l g p
+said (has_value sig grid vs) at k l g p = said_behind_value sig grid at k vs g p
+said (has_word sig grid) at k l g p = said_behind_word sig grid at k g p
+said (in_rule sig grid rules d s) at k l g p = said_rule sig grid rules at k d s l g p
+
+-- all tokens
+
+-- behind some tokens that led from s to u
+pub record Told (s : Stand) (at : At) (ks : List Tok) (u : Stand) : Type 0 where
+  pub is_good : Good u
+  pub so_far : stand_tokens u ≡ stand_tokens s ++ ks
+  pub place : Behind (stand_tokens u) (passed at ks)
+
+told_first : (s v u : Stand) (at : At) (k : Tok) (ks : List Tok) → stand_tokens v ≡ stand_tokens s ++ (k ∷ []) → Told v (past at k) ks u → Told s at (k ∷ ks) u
+told_first s v u at k ks e z = record { is_good = z.is_good; so_far = z.so_far ∙ ap (λ l. l ++ ks) e ∙ append_assoc (stand_tokens s) (k ∷ []) ks; place = z.place }
+
+pub tells : (s : Stand) (at : At) (ks : List Tok) (u : Stand) → All Lexed ks → Good s → Behind (stand_tokens s) at → reach limits s at ks ≡ Ok u → Told s at ks u
+tells s at [] u l g p e = subst (Told s at []) (same_ok e) (record { is_good = g; so_far = sym (append-nil (stand_tokens s)); place = p })
+tells s at (k ∷ ks) u l g p e =
+    let (v, q, r) = reach_first limits s at k ks u e in
+    let (a, b) = subst (Said s k) q (said s at k l.0 g p) in
+    told_first s v u at k ks b (tells v (past at k) ks u l.1 a (behind_past (stand_tokens s) at k (stand_tokens v) p b) r)
+
+-- the cause of a refusal
+
+rule_ended : (sig : Sig) (grid : _) (rules : _) (d : _) (s : _) (at : At) (f : SheetFault) → Ruled sig grid rules d s → Behind (stand_tokens (in_rule sig grid rules d s)) at → rule_end sig grid rules d s at ≡ Err f → Cause sig (stand_tokens (in_rule sig grid rules d s)) None f
+rule_ended sig grid rules on_left (wants top) at f g p e = not_both e
+rule_ended sig grid rules on_left (wants (within h a ts n k)) at f g p e = subst (Cause sig _ None) (same_fault e) p
+rule_ended sig grid rules (on_right l) (wants k) at f g p e = subst (Cause sig _ None) (same_fault e) p
+rule_ended sig grid rules d (opens h a n k) at f g p e =
+    subst (Cause sig _ None) (same_fault e) (miscounted_opens g.shaped.declared (before_side sig grid rules d) h a n k None g.side.begun.shaped.0 no_some)
+rule_ended sig grid rules d (has t b k) at f g p e = subst (Cause sig _ None) (same_fault e) p
+
+pub ended : (s : Stand) (at : At) (f : SheetFault) → Good s → Behind (stand_tokens s) at → sheet_end s at ≡ Err f → (o : Sig) → Over s o → Cause o (stand_tokens s) None f
+ended (in_heading h) at f g p e o q = subst (Cause o _ None) (same_fault e) p
+ended (wants_value sig grid vs) at f g p e o q = subst (Cause o _ None) (same_fault e) p
+ended (has_value sig grid vs) at f g p e o q = subst (Cause o _ None) (same_fault e) p
+ended (has_word sig grid) at f g p e o q = subst (Cause o _ None) (same_fault e) p
+ended (in_rule sig grid rules d s) at f g p e o q = subst (λ x. Cause x (stand_tokens (in_rule sig grid rules d s)) None f) (sym q) (rule_ended sig grid rules d s at f g p e)
+
+pub cause : (s : Stand) (at : At) (w : Wrong) (f : SheetFault) → Good s → Behind (stand_tokens s) at → Refuses limits s at w f → ((k : Tok) → w ≡ Some k → Lexed k) → (o : Sig) → Over s o → Cause o (stand_tokens s) w f
+cause s at None f g p e x o q = ended s at f g p e o q
+cause s at (Some k) f g p e x o q = subst (Said s k) e (said s at k (x k refl) g p) o q

@@ -1,0 +1,8 @@
+pub mod Heading
+pub mod Refusals
+pub mod Values
+pub mod Sheet
+pub mod Sides
+pub mod Reading
+pub mod Laws
+pub mod Cases
