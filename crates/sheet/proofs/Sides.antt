@@ -7,7 +7,7 @@ use Rattle.terms.specs.declared.symbol.Symbol.{Symbol}
 use Rattle.terms.specs.declared.symbol.Symbol.TheVariants.{Vacant, Variable, Instrument, Operator}
 use Rattle.terms.specs.declared.node.Node.{Node}
 use Rattle.terms.specs.declared.layout.Layout.{Layout}
-use Rattle.terms.specs.contracts.node.Node as node-type
+use Rattle.terms.specs.contracts.node.Node as node_type
 use Rattle.terms.specs.Term.{Term, Terms, how_many, symbols}
 use Rattle.terms.specs.View.{Stands}
 use Rattle.terms.specs.Nodes.{node_answers, laid}
@@ -23,7 +23,7 @@ use Rattle.sheet.specs.declared.side.Side.{Side}
 
 -- two lists of nodes are equal in at most one way
 nodes_set : IsSet (List Node)
-nodes_set = Coded-set (coded_list (node-type.the_row).coded)
+nodes_set = Coded-set (coded_list (node_type.the_row).coded)
 
 -- the nodes in use are those of the term
 pub side_laid : (s : Side) → in_use s.nodes ≡ laid 0 None (side_of s)

@@ -105,7 +105,7 @@ variable_stands : (d : Hand) (x : ℕ) (k : Context) (at : At) → MayStand d x 
 variable_stands on_left x k at h = cond-false _ _ _ (le-ltb 0 (occurrences_before x k) (omega (arith, itself x)))
 variable_stands (on_right l) x k at h = cond-true _ _ _ (lt-ltb 0 (occurrences x l) (h (omega (arith, itself x))))
 
-module _ {sig : Sig} (good : Declared sig) (m : Limits) (rules : ℕ) (room-for-rule : rules < m.rules) (d : Hand) where
+module _ {sig : Sig} (good : Declared sig) (m : Limits) (rules : ℕ) (room_for_rule : rules < m.rules) (d : Hand) where
   abbrev reach : State → At → List Tok → Result State SheetFault
   reach = side_reach m sig rules d
 
@@ -147,7 +147,7 @@ module _ {sig : Sig} (good : Declared sig) (m : Limits) (rules : ℕ) (room-for-
       None,
       ap (reach (wants k) at) (tokens_term good (variable x) h)
           ∙ ap (λ q. and_on q (λ u. Ok u))
-          (cond-true _ _ _ (has_room m rules k room-for-rule (omega (arith, r.few)) (omega (arith, r.low)))
+          (cond-true _ _ _ (has_room m rules k room_for_rule (omega (arith, r.few)) (omega (arith, r.low)))
           ∙ ap (λ q. and_on q (λ _. variable_on d x k at)) (passes_front d (variable x) k at (wants k) (λ z. z) r.in_front) ∙ variable_stands d x k at (r.may_stand x)),
     )
     reads (instrument n) h k at r = (
@@ -155,7 +155,7 @@ module _ {sig : Sig} (good : Declared sig) (m : Limits) (rules : ℕ) (room-for-
       ap (reach (wants k) at) (tokens_term good (instrument n) h)
           ∙ ap (λ o. and_on (and_on (in_text (with_number o at k)) (λ u. within_room m rules k at (fronted d k at u))) (λ u. Ok u)) (numbered_decimal 999999 n (omega arith) h)
           ∙ ap (λ q. and_on q (λ u. Ok u))
-          (cond-true _ _ _ (has_room m rules k room-for-rule (omega (arith, r.few)) (omega (arith, r.low)))
+          (cond-true _ _ _ (has_room m rules k room_for_rule (omega (arith, r.few)) (omega (arith, r.low)))
           ∙ passes_front d (instrument n) k at (has (instrument n) None k) (λ z. z) r.in_front),
     )
     reads (apply f ts) h k at r =
@@ -165,7 +165,7 @@ module _ {sig : Sig} (good : Declared sig) (m : Limits) (rules : ℕ) (room-for-
           b,
           ap (reach (wants k) at) (tokens_term good (apply f ts) h)
               ∙ ap (λ q. and_on (and_on (in_text q) (λ u. within_room m rules k at (Ok u))) (λ u. reach u (past at w) ks)) (name_step good f h.0 k at)
-              ∙ ap (λ q. and_on q (λ u. reach u (past at w) ks)) (cond-true _ _ _ (has_room m rules k room-for-rule (omega (arith, r.few)) (omega (arith, r.low))))
+              ∙ ap (λ q. and_on q (λ u. reach u (past at w) ks)) (cond-true _ _ _ (has_room m rules k room_for_rule (omega (arith, r.few)) (omega (arith, r.low))))
               ∙ ap (λ n. reach (named f n at k) (past at w) ks) (sym h.1) ∙ e,
         )
 
