@@ -2,7 +2,7 @@
 use Rattle.std.proofs.Common.{◌≡◌, ℕ, ◌<◌, ◌≤◌, Bool, true, false, leb, List, [], length, set, Some, None, Ok, Err, Option, sym, ap, ◌∙◌, subst, ⊎_elim, arith}
 use Rattle.std.proofs.lemmas.List.{set_past}
 use Rattle.std.proofs.lemmas.Bool.{cond_both, cond-true, cond-false, le-leb, lt-leb, leb-true}
-use Rattle.std.specs.List.{AllByRecursion as All}
+use Rattle.std.specs.List.{AllByRecursion}
 use Rattle.terms.specs.Signature.{Sig, op_of}
 use Rattle.signature.specs.Declaring.{Ranks}
 use Rattle.reading.specs.declared.token.At.{At}
@@ -45,7 +45,7 @@ ReadsOn text l h = head_run h (now_at l) (tokens (what_is_left l)) ≡ head_run 
 
 -- a name that was read is spelt as one
 pub read_spelt : (l m : Lexer) (x : Lexeme) → ReadToken l x m → NameSpelt (meaning x.token)
-read_spelt l m x r s e = subst Lexed e (subst (λ ks. All Lexed ks) r.first (tokens_lexed 0 (what_is_left l))).0
+read_spelt l m x r s e = subst Lexed e (subst (λ ks. AllByRecursion Lexed ks) r.first (tokens_lexed 0 (what_is_left l))).0
 
 module _ (text : List ℕ) where
   here : (l : Lexer) (h : Head) (x : Lexeme) (m : Lexer) → ReadToken l x m → ReadsOn text l h

@@ -1,6 +1,6 @@
 -- The line of counts, as a run reads it.
 use Rattle.std.proofs.Common.{◌≡◌, ℕ, suc, ◌<◌, ◌≤◌, ltb, ◌⊎◌, List, [], ◌∷◌, ◌++◌, map, length, set, Some, None, Ok, Err, decimal, Option, Result, sym, refl, ap, ◌∙◌, inl, inr, ⊎_elim, append_assoc, arith, length-append}
-use Rattle.std.specs.List.{AllByRecursion as All}
+use Rattle.std.specs.List.{AllByRecursion}
 use Rattle.std.proofs.lemmas.List.{get_or_at, set_at}
 use Rattle.std.proofs.lemmas.Bool.{cond_both, cond-true, cond-false, lt-ltb, le-ltb, ltb-true, ltb-false}
 use Rattle.terms.specs.Signature.{Op, Sig, op_of}
@@ -86,10 +86,10 @@ record One (front rest : Sig) (o : Op) (f : ℕ) (ks : List Tok) (all : Sig) : T
   more : List Tok
   at : At
   first : ks ≡ a_number (decimal count) ∷ more
-  lexed : All Lexed more
+  lexed : AllByRecursion Lexed more
   then : head_run ((front ++ (record { name = o.name; arity = count } ∷ [])) ++ rest, HasCount f) at more ≡ Ok all
 
-one : (front rest : Sig) (o : Op) (f : ℕ) (at : At) (ks : List Tok) (all : Sig) → length front ≡ f → All Lexed ks → head_run (front ++ (o ∷ rest), WantsCount f) at ks ≡ Ok all → One front rest o f ks all
+one : (front rest : Sig) (o : Op) (f : ℕ) (at : At) (ks : List Tok) (all : Sig) → length front ≡ f → AllByRecursion Lexed ks → head_run (front ++ (o ∷ rest), WantsCount f) at ks ≡ Ok all → One front rest o f ks all
 one front rest o f at [] all e l q = not_both (sym q)
 one front rest o f at (k ∷ ks) all e l q =
     let sig : Sig = front ++ (o ∷ rest) in
@@ -109,10 +109,10 @@ record Others (front rest : Sig) (ks : List Tok) (all : Sig) : Type 0 where
   done : Sig
   joined : all ≡ front ++ done
   names : map (λ (o : Op). o.name) done ≡ map (λ (o : Op). o.name) rest
-  ranked : All (λ (o : Op). o.arity ≤ 3) done
+  ranked : AllByRecursion (λ (o : Op). o.arity ≤ 3) done
   read : ks ≡ follow (map count_tok done)
 
-others : (rest front : Sig) (f : ℕ) (at : At) (ks : List Tok) (all : Sig) → suc f ≡ length front → All Lexed ks → head_run (front ++ rest, HasCount f) at ks ≡ Ok all → Others front rest ks all
+others : (rest front : Sig) (f : ℕ) (at : At) (ks : List Tok) (all : Sig) → suc f ≡ length front → AllByRecursion Lexed ks → head_run (front ++ rest, HasCount f) at ks ≡ Ok all → Others front rest ks all
 others [] front f at [] all e l q = not_both (sym q)
 others (o ∷ rest) front f at [] all e l q = not_both (sym q)
 others [] front f at (k ∷ ks) all e l q =
@@ -140,10 +140,10 @@ others (o ∷ rest) front f at (k ∷ ks) all e l q =
 -- an accepted line of counts is that of the operators, whose names are as they were
 pub record Counts (sig : Sig) (ks : List Tok) (all : Sig) : Type 0 where
   pub names : map (λ (o : Op). o.name) all ≡ map (λ (o : Op). o.name) sig
-  pub ranked : All (λ (o : Op). o.arity ≤ 3) all
+  pub ranked : AllByRecursion (λ (o : Op). o.arity ≤ 3) all
   pub read : ks ≡ line (map count_tok all)
 
-pub counts : (sig : Sig) (at : At) (ks : List Tok) (all : Sig) → 1 ≤ length sig → All Lexed ks → head_run (sig, WantsCount 0) at ks ≡ Ok all → Counts sig ks all
+pub counts : (sig : Sig) (at : At) (ks : List Tok) (all : Sig) → 1 ≤ length sig → AllByRecursion Lexed ks → head_run (sig, WantsCount 0) at ks ≡ Ok all → Counts sig ks all
 counts [] at ks all h l q = absurd (omega arith)
 counts (o ∷ rest) at ks all h l q =
     let x = one [] rest o 0 at ks all refl l q in
@@ -170,7 +170,7 @@ one_back front rest o f at ks e m =
     ap (λ n. and_on (counted n (front ++ (bare_op o ∷ rest)) f at) (λ g. head_run g (past at (count_tok o)) ks)) (numbered_decimal 3 o.arity (omega arith) m)
     ∙ ap (λ s. head_run (s, HasCount f) (past at (count_tok o)) ks) (count_set front rest (bare_op o) f o.arity e)
 
-others_back : (rest front : Sig) (f : ℕ) (at : At) → suc f ≡ length front → All (λ (o : Op). o.arity ≤ 3) rest → head_run (front ++ bare rest, HasCount f) at (follow (map count_tok rest)) ≡ Ok (front ++ rest)
+others_back : (rest front : Sig) (f : ℕ) (at : At) → suc f ≡ length front → AllByRecursion (λ (o : Op). o.arity ≤ 3) rest → head_run (front ++ bare rest, HasCount f) at (follow (map count_tok rest)) ≡ Ok (front ++ rest)
 others_back [] front f at e h =
     ap (λ (r : Outcome). and_on r (λ g. head_run g (past at (a_mark LineEnd)) [])) (cond-false _ _ _ (le-ltb (suc f) (length (front ++ [])) (omega (arith, length-append front []))))
 others_back (o ∷ rest) front f at e h =
@@ -180,6 +180,6 @@ others_back (o ∷ rest) front f at e h =
     ∙ others_back rest (front ++ (o ∷ [])) (suc f) _ (omega (arith, length-append front (o ∷ []))) h.1
     ∙ ap Ok (append_assoc front (o ∷ []) rest)
 
-pub counts_back : (sig : Sig) (at : At) → 1 ≤ length sig → All (λ (o : Op). o.arity ≤ 3) sig → head_run (bare sig, WantsCount 0) at (line (map count_tok sig)) ≡ Ok sig
+pub counts_back : (sig : Sig) (at : At) → 1 ≤ length sig → AllByRecursion (λ (o : Op). o.arity ≤ 3) sig → head_run (bare sig, WantsCount 0) at (line (map count_tok sig)) ≡ Ok sig
 counts_back [] at h r = absurd (omega arith)
 counts_back (o ∷ rest) at h r = one_back [] (bare rest) o 0 at (follow (map count_tok rest)) refl r.0 ∙ others_back rest (o ∷ []) 0 _ refl r.1

@@ -1,6 +1,6 @@
 -- The tokens of a ticket's text.
 use Rattle.std.proofs.Common.{◌≡◌, ℕ, zero, suc, ◌-◌, ◌≤◌, Bool, true, false, ◌&&◌, leb, List, [], ◌∷◌, ◌++◌, length, decimal, sym, refl, ap, ◌∙◌, append_assoc, append-nil, arith, length-append}
-use Rattle.std.specs.List.{AllByRecursion as All}
+use Rattle.std.specs.List.{AllByRecursion}
 use Rattle.std.proofs.lemmas.Bool.{false≢true, cond-true, cond-false, or_parts, and_parts, leb-true}
 use Rattle.terms.specs.Term.{Term, variable, instrument, apply, Terms, nil, cons}
 use Rattle.terms.specs.Signature.{Sig, op_of, lower, digit, word, all_words, spelt, Declared}
@@ -16,7 +16,7 @@ abbrev pub Stops : (ℕ → Bool) → List ℕ → Type 0
 Stops p [] = Unit {0}
 Stops p (b ∷ bs) = p b ≡ false
 
-pub front_is : (p : ℕ → Bool) (k : ℕ) (xs r : List ℕ) → All (λ b. p b ≡ true) xs → length xs ≤ k → Stops p r → front p k (xs ++ r) ≡ xs
+pub front_is : (p : ℕ → Bool) (k : ℕ) (xs r : List ℕ) → AllByRecursion (λ b. p b ≡ true) xs → length xs ≤ k → Stops p r → front p k (xs ++ r) ≡ xs
 front_is p zero [] r h l s = refl
 front_is p (suc k) [] [] h l s = refl
 front_is p (suc k) [] (b ∷ r) h l s = cond-false _ _ _ s
@@ -33,7 +33,7 @@ tokens_first b bs r t e q =
     ∙ ap (λ n. t ∷ tokens_from n (bs ++ r)) (omega (arith, ap length q))
     ∙ ap (λ l. t ∷ l) (tokens_skip bs r)
 
-all_from_words : (bs : List ℕ) → all_words bs ≡ true → All (λ b. word b ≡ true) bs
+all_from_words : (bs : List ℕ) → all_words bs ≡ true → AllByRecursion (λ b. word b ≡ true) bs
 all_from_words [] h = tt
 all_from_words (b ∷ bs) h = let (p, q) = and_parts (word b) (all_words bs) h in (p, all_from_words bs q)
 

@@ -1,6 +1,6 @@
 -- The tokens of a heading: two lines, with blanks between.
 use Rattle.std.proofs.Common.{◌≡◌, ℕ, ◌+◌, ◌*◌, ◌<◌, ◌≤◌, true, false, leb, List, [], ◌∷◌, ◌++◌, map, length, decimal, sym, refl, ap, ◌∙◌, append_assoc, append-nil, arith, length-append}
-use Rattle.std.specs.List.{AllByRecursion as All}
+use Rattle.std.specs.List.{AllByRecursion}
 use Rattle.std.proofs.lemmas.Fmt.{decimal_nonempty, decimal_digit}
 use Rattle.std.proofs.ByRecursion.{All-weaker, All-from_get_or}
 use Rattle.std.proofs.lemmas.Bool.{cond-true, cond-false, and_parts, and_left, leb-true, lt-leb}
@@ -60,7 +60,7 @@ tokens_number (b ∷ bs) r n h e =
 abbrev Shows : (Op → List ℕ) → (Op → Tok) → Op → Type 0
 Shows show k o = (r : List ℕ) → Stops word r → tokens (show o ++ r) ≡ k o ∷ tokens r
 
-tokens_line : (show : Op → List ℕ) (k : Op → Tok) (sig : Sig) → All (Shows show k) sig → (r : List ℕ) → tokens (line_of show sig ++ r) ≡ line (map k sig) ++ tokens r
+tokens_line : (show : Op → List ℕ) (k : Op → Tok) (sig : Sig) → AllByRecursion (Shows show k) sig → (r : List ℕ) → tokens (line_of show sig ++ r) ≡ line (map k sig) ++ tokens r
 tokens_line show k [] h r = refl
 tokens_line show k (o ∷ []) h r = ap tokens (append_assoc (show o) (10 ∷ []) r) ∙ h.0 (10 ∷ r) refl
 tokens_line show k (o ∷ p ∷ os) h r =
@@ -69,23 +69,23 @@ tokens_line show k (o ∷ p ∷ os) h r =
     ∙ ap (λ l. k o ∷ (a_mark Blank ∷ l)) (tokens_line show k (p ∷ os) h.1 r)
 
 module _ {sig : Sig} (good : Declared sig) where
-  all_spelt : All (λ o. spelt o.name ≡ true) sig
+  all_spelt : AllByRecursion (λ o. spelt o.name ≡ true) sig
   all_spelt = All-from_get_or (λ o. spelt o.name ≡ true) sig _ good.are_spelt
 
-  pub all_ranked : All (λ o. o.arity ≤ 3) sig
+  pub all_ranked : AllByRecursion (λ o. o.arity ≤ 3) sig
   all_ranked = All-from_get_or (λ o. o.arity ≤ 3) sig _ good.are_ranked
 
   pub tokens_heading : tokens (heading_text sig) ≡ heading_tokens sig
   tokens_heading =
-      let names : All (Shows (λ o. o.name) name_tok) sig = All-weaker (λ o. spelt o.name ≡ true) (Shows (λ o. o.name) name_tok) (λ o h r e. tokens_name o.name r h e) sig all_spelt in
-      let counts : All (Shows (λ o. decimal o.arity) count_tok) sig = All-weaker (λ o. o.arity ≤ 3) (Shows (λ o. decimal o.arity) count_tok)
+      let names : AllByRecursion (Shows (λ o. o.name) name_tok) sig = All-weaker (λ o. spelt o.name ≡ true) (Shows (λ o. o.name) name_tok) (λ o h r e. tokens_name o.name r h e) sig all_spelt in
+      let counts : AllByRecursion (Shows (λ o. decimal o.arity) count_tok) sig = All-weaker (λ o. o.arity ≤ 3) (Shows (λ o. decimal o.arity) count_tok)
       (λ o h r e. tokens_number (decimal o.arity) r (decimal_nonempty o.arity (omega arith)) (all_digits_decimal o.arity (omega arith)) e) sig all_ranked in
       tokens_line (λ o. o.name) name_tok sig names (line_of (λ o. decimal o.arity) sig)
       ∙ ap (λ l. line (map name_tok sig) ++ l) (ap tokens (sym (append-nil (line_of (λ o. decimal o.arity) sig))) ∙ tokens_line (λ o. decimal o.arity) count_tok sig counts [] ∙ append-nil (line (map count_tok sig)))
 
 -- and is short
 
-length-line : (show : Op → List ℕ) (sig : Sig) → All (λ o. length (show o) ≤ 12) sig → length (line_of show sig) ≤ 1 + 13 * length sig
+length-line : (show : Op → List ℕ) (sig : Sig) → AllByRecursion (λ o. length (show o) ≤ 12) sig → length (line_of show sig) ≤ 1 + 13 * length sig
 length-line show [] h = omega arith
 length-line show (o ∷ []) h = omega (arith, h.0, length-append (show o) (10 ∷ []))
 length-line show (o ∷ p ∷ os) h = omega (arith, h.0, length-append (show o) (32 ∷ line_of show (p ∷ os)), length-line show (p ∷ os) h.1)

@@ -1,6 +1,6 @@
 -- The line of names, as a run reads it, and the line of counts behind it.
 use Rattle.std.proofs.Common.{◌≡◌, ℕ, zero, suc, ◌<◌, ◌≤◌, true, cond, leb, ◌⊎◌, List, [], ◌∷◌, ◌++◌, map, length, get_or, Some, None, Ok, Option, sym, refl, ap, ◌∙◌, subst, inl, inr, ⊎_elim, append_assoc, append-nil, arith, length-append}
-use Rattle.std.specs.List.{AllByRecursion as All}
+use Rattle.std.specs.List.{AllByRecursion}
 use Rattle.std.specs.Str.{bytes_eq}
 use Rattle.std.proofs.ByRecursion.{All-get_or}
 use Rattle.std.proofs.lemmas.List.{length-map, length_push, map_push, get_or_append_left, get_or_at}
@@ -37,7 +37,7 @@ module _ (sig all : Sig) (same : names all ≡ names sig) where
   same_length : length all ≡ length sig
   same_length = sym (length-map all _) ∙ ap length same ∙ length-map sig _
 
-  declared_counted : Declared sig → All (λ (o : Op). o.arity ≤ 3) all → Declared all
+  declared_counted : Declared sig → AllByRecursion (λ (o : Op). o.arity ≤ 3) all → Declared all
   declared_counted good h = record {
     are_spelt = λ f l. ap spelt (same_name f) ∙ good.are_spelt f (omega (arith, same_length));
     are_apart = λ f g e. good.are_apart f g (omega (arith, same_length, e.0), omega (arith, same_length, e.1), sym (same_name f) ∙ e.2 ∙ same_name g);
@@ -97,7 +97,7 @@ abbrev First : Sig → List Tok → Sig → Type 0
 First sig ks all = (s : List ℕ) × (js : List Tok) × (ks ≡ a_name s ∷ js) × Further (sig ++ (new s ∷ [])) js all
 
 -- the line ends
-last_name : (sig : Sig) (at : At) (k : Tok) (ks : List Tok) (all : Sig) → Declared sig → length sig ≤ 32 → 1 ≤ length sig → All Lexed ks → k ≡ a_mark LineEnd → head_run (sig, WantsCount 0) at ks ≡ Ok all → Further sig (k ∷ ks) all
+last_name : (sig : Sig) (at : At) (k : Tok) (ks : List Tok) (all : Sig) → Declared sig → length sig ≤ 32 → 1 ≤ length sig → AllByRecursion Lexed ks → k ≡ a_mark LineEnd → head_run (sig, WantsCount 0) at ks ≡ Ok all → Further sig (k ∷ ks) all
 last_name sig at k ks all good few some l e q =
     let c = counts sig at ks all some l q in
     record {
@@ -119,7 +119,7 @@ next_name sig k ks all e (s, js, p, z) = record {
 }
 
 mutual
-  further : (ks : List Tok) (sig : Sig) (at : At) (all : Sig) → Declared sig → length sig ≤ 32 → 1 ≤ length sig → All Lexed ks → head_run (sig, HasName) at ks ≡ Ok all → Further sig ks all
+  further : (ks : List Tok) (sig : Sig) (at : At) (all : Sig) → Declared sig → length sig ≤ 32 → 1 ≤ length sig → AllByRecursion Lexed ks → head_run (sig, HasName) at ks ≡ Ok all → Further sig ks all
   further [] sig at all good few some l q = not_both (sym q)
   further (k ∷ ks) sig at all good few some l q =
       let (g, w, r) = then_on (GoesOn sig k) (head_step (sig, HasName) at k) (λ g. head_run g (past at k) ks) all (goes_on sig at k) q in
@@ -127,7 +127,7 @@ mutual
       (λ h. next_name sig k ks all h.0 (first ks sig (past at k) all good few l.1 (ap (λ x. head_run x (past at k) ks) (sym h.1) ∙ r)))
       (λ h. last_name sig (past at k) k ks all good few some l.1 h.0 (ap (λ x. head_run x (past at k) ks) (sym h.1) ∙ r)) w
 
-  pub first : (ks : List Tok) (sig : Sig) (at : At) (all : Sig) → Declared sig → length sig ≤ 32 → All Lexed ks → head_run (sig, WantsName) at ks ≡ Ok all → First sig ks all
+  pub first : (ks : List Tok) (sig : Sig) (at : At) (all : Sig) → Declared sig → length sig ≤ 32 → AllByRecursion Lexed ks → head_run (sig, WantsName) at ks ≡ Ok all → First sig ks all
   first [] sig at all good few l q = not_both (sym q)
   first (k ∷ ks) sig at all good few l q =
       let (g, (s, p, e, h, u, z), r) = then_on (Named sig k) (head_step (sig, WantsName) at k) (λ g. head_run g (past at k) ks) all (is_named sig at k l.0) q in
@@ -140,7 +140,7 @@ name_toks [] = refl
 name_toks (o ∷ os) = ap (λ l. name_tok o ∷ l) (name_toks os)
 
 -- an accepted heading has the tokens of the signature that is read
-pub heading_told : (ks : List Tok) (at : At) (all : Sig) → All Lexed ks → head_run ([], WantsName) at ks ≡ Ok all → Declared all × (1 ≤ length all) × (length all ≤ 32) × (ks ≡ heading_tokens all)
+pub heading_told : (ks : List Tok) (at : At) (all : Sig) → AllByRecursion Lexed ks → head_run ([], WantsName) at ks ≡ Ok all → Declared all × (1 ≤ length all) × (length all ≤ 32) × (ks ≡ heading_tokens all)
 heading_told ks at all l q =
     let none : Declared [] = record { are_spelt = λ f h. absurd (omega arith); are_apart = λ f g h. absurd (omega (arith, h.0)); are_ranked = λ f h. absurd (omega arith) } in
     let (s, js, p, z) = first ks [] at all none (omega arith) l q in

@@ -1,6 +1,6 @@
 -- Each token that is accepted is one more of the tokens read.
 use Rattle.std.proofs.Common.{◌≡◌, ℕ, zero, suc, ◌+◌, ◌<◌, List, [], ◌∷◌, ◌++◌, length, Some, None, Ok, Err, Option, Result, sym, refl, ap, ◌∙◌, subst, append_assoc, append-nil, arith, length-append}
-use Rattle.std.specs.List.{AllByRecursion as All}
+use Rattle.std.specs.List.{AllByRecursion}
 use Rattle.terms.specs.Term.{Term, instrument, apply, nil}
 use Rattle.terms.specs.Signature.{Sig, op_of, found, Declared}
 use Rattle.terms.specs.Ticket.{Ticket}
@@ -131,7 +131,7 @@ module _ {sig : Sig} (good : Declared sig) where
   behind_past ks at k ls p q e =
       same_at (omega (arith, ap (λ x. x.place) p, ap (λ l. length (whole l)) e, length_whole ks k)) (omega (arith, ap (λ x. x.line) p))
 
-  pub tells : (s : State) (at : At) (ks : List Tok) (u : State) → All Lexed ks → Good sig s → Behind (state_tokens sig s) at → reach sig s at ks ≡ Ok u → Told s at ks u
+  pub tells : (s : State) (at : At) (ks : List Tok) (u : State) → AllByRecursion Lexed ks → Good sig s → Behind (state_tokens sig s) at → reach sig s at ks ≡ Ok u → Told s at ks u
   tells s at [] u l g p e = subst (Told s at []) (same_ok e) (record { is_good = g; so_far = sym (append-nil (state_tokens sig s)); place = p })
   tells s at (k ∷ ks) u l g p e =
       let (v, q, r) = reach_first sig s at k ks u e in

@@ -1,6 +1,6 @@
 -- The tokens of a text are its parts; names are spelt, numbers are digits, and instruments have digits behind '#'.
 use Rattle.std.proofs.Common.{◌≡◌, ℕ, zero, suc, ◌+◌, ◌-◌, ◌≤◌, Bool, true, ◌&&◌, eqb, leb, List, [], ◌∷◌, ◌++◌, length, drop, Some, sym, refl, ap, ◌∙◌, subst, arith, length-append}
-use Rattle.std.specs.List.{AllByRecursion as All}
+use Rattle.std.specs.List.{AllByRecursion}
 use Rattle.std.proofs.lemmas.Bool.{cond_both, eqb-true, leb-true, le-leb, and_parts, and_from}
 use Rattle.terms.specs.Signature.{lower, digit, word, all_words, spelt}
 use Rattle.reading.specs.declared.token.Mark.{Mark}
@@ -12,17 +12,17 @@ front_rest p zero bs = refl
 front_rest p (suc k) [] = refl
 front_rest p (suc k) (b ∷ bs) = cond_both (p b) (b ∷ front p k bs) [] (λ l. l ++ drop (length l) (b ∷ bs) ≡ b ∷ bs) (λ _. ap (λ l. b ∷ l) (front_rest p k bs)) (λ _. refl)
 
-front_all : (p : ℕ → Bool) (k : ℕ) (bs : List ℕ) → All (λ b. p b ≡ true) (front p k bs)
+front_all : (p : ℕ → Bool) (k : ℕ) (bs : List ℕ) → AllByRecursion (λ b. p b ≡ true) (front p k bs)
 front_all p zero bs = tt
 front_all p (suc k) [] = tt
-front_all p (suc k) (b ∷ bs) = cond_both (p b) (b ∷ front p k bs) [] (All (λ x. p x ≡ true)) (λ e. (e, front_all p k bs)) (λ _. tt)
+front_all p (suc k) (b ∷ bs) = cond_both (p b) (b ∷ front p k bs) [] (AllByRecursion (λ x. p x ≡ true)) (λ e. (e, front_all p k bs)) (λ _. tt)
 
 front_short : (p : ℕ → Bool) (k : ℕ) (bs : List ℕ) → length (front p k bs) ≤ k
 front_short p zero bs = omega arith
 front_short p (suc k) [] = omega arith
 front_short p (suc k) (b ∷ bs) = let ih = front_short p k bs in cond_both (p b) (b ∷ front p k bs) [] (λ l. length l ≤ suc k) (λ _. omega arith) (λ _. omega arith)
 
-words_from_all : (bs : List ℕ) → All (λ b. word b ≡ true) bs → all_words bs ≡ true
+words_from_all : (bs : List ℕ) → AllByRecursion (λ b. word b ≡ true) bs → all_words bs ≡ true
 words_from_all [] h = refl
 words_from_all (b ∷ bs) h = and_from (word b) (all_words bs) h.0 (words_from_all bs h.1)
 
@@ -35,8 +35,8 @@ name_spelt b bs l =
 -- a name is spelt as one, a number is digits, an instrument is '#' and digits
 abbrev pub Lexed : Tok → Type 0
 Lexed (a_name s) = spelt s ≡ true
-Lexed (a_number s) = All (λ d. digit d ≡ true) s
-Lexed (an_instrument s) = All (λ d. digit d ≡ true) (drop 1 s)
+Lexed (a_number s) = AllByRecursion (λ d. digit d ≡ true) s
+Lexed (an_instrument s) = AllByRecursion (λ d. digit d ≡ true) (drop 1 s)
 Lexed (a_variable x) = Unit {0}
 Lexed (a_mark m) = Unit {0}
 Lexed (a_stray b) = Unit {0}
@@ -80,7 +80,7 @@ first_part b bs =
     (λ _. cond_both (eqb b 35) _ _ (Part b bs) (λ _. fronted b bs (an_instrument (b ∷ front digit n bs)) digit n (front_all digit n bs) refl)
     (λ _. single_part b bs)))
 
-pub tokens_lexed : (k : ℕ) (bs : List ℕ) → All Lexed (tokens_from k bs)
+pub tokens_lexed : (k : ℕ) (bs : List ℕ) → AllByRecursion Lexed (tokens_from k bs)
 tokens_lexed zero [] = tt
 tokens_lexed (suc k) [] = tt
 tokens_lexed zero (b ∷ bs) = ((first_part b bs).lexed, tokens_lexed (length (token_bytes (first_token b bs)) - 1) bs)

@@ -1,6 +1,6 @@
 -- A sheet's tokens are read as that sheet.
 use Rattle.std.proofs.Common.{◌≡◌, ℕ, suc, ◌+◌, ◌%◌, ◌<◌, ◌≤◌, true, false, ◌&&◌, eqb, ltb, leb, ◌⊎◌, List, [], ◌∷◌, ◌++◌, map, length, Some, None, Ok, codes, Option, Result, sym, refl, ap, ◌∙◌, subst, ⊎_elim, append_assoc, append-nil, arith, length-append}
-use Rattle.std.specs.List.{AllByRecursion as All}
+use Rattle.std.specs.List.{AllByRecursion}
 use Rattle.std.proofs.lemmas.List.{length_push}
 use Rattle.std.proofs.lemmas.Bool.{cond_both, cond-true, cond-false, and_right, and_from, or_left, or_right, eq-eqb, le-leb, lt-ltb, le-ltb}
 use Rattle.terms.specs.Term.{Term}
@@ -138,7 +138,7 @@ module _ (m : Limits) (sig : Sig) (good : Declared sig) (grid : Grid) where
       (side_back rules on_left r.left (a_mark Equals) room left w.0 refl)
       (side_back rules (on_right r.left) r.right (a_mark LineEnd) room right w.1 refl))
 
-  rules_back : (rs rules : List Rule) → All (RuleOf sig) rs → All (λ r. SideWithin m r.left × SideWithin m r.right) rs → length rules + length rs ≤ m.rules
+  rules_back : (rs rules : List Rule) → AllByRecursion (RuleOf sig) rs → AllByRecursion (λ r. SideWithin m r.left × SideWithin m r.right) rs → length rules + length rs ≤ m.rules
       → Leads m (in_rule sig grid rules on_left (wants top)) (rules_tokens sig rs) (in_rule sig grid (rules ++ rs) on_left (wants top))
   rules_back [] rules h w l = λ at. ap (λ x. Ok (in_rule sig grid x on_left (wants top))) (sym (append-nil rules))
   rules_back (r ∷ rs) rules h w l =

@@ -1,6 +1,6 @@
 -- The heading of a signature is read as that signature.
 use Rattle.std.proofs.Common.{◌≡◌, ℕ, suc, ◌<◌, ◌≤◌, cond, List, [], ◌∷◌, ◌++◌, map, length, set, Some, None, Ok, Option, sym, refl, ap, ◌∙◌, subst, append_assoc, append-nil, arith, length-append}
-use Rattle.std.specs.List.{AllByRecursion as All}
+use Rattle.std.specs.List.{AllByRecursion}
 use Rattle.std.specs.Str.{bytes_eq}
 use Rattle.std.proofs.lemmas.List.{length-map, map_push, get_or_append_left, get_or_at, set_at}
 use Rattle.std.proofs.lemmas.Bool.{cond-true, cond-false, lt-leb, lt-ltb, le-ltb}
@@ -57,7 +57,7 @@ module _ (m : Limits) where
       ap (λ n. on at (count_tok o) ks (counted n (front ++ (bare_op o ∷ rest)) f at)) (numbered_decimal 3 o.arity (omega arith) h)
       ∙ ap (λ s. reach m (in_heading (s, HasCount f)) (past at (count_tok o)) ks) (count_set front rest (bare_op o) f o.arity e)
 
-  others_back : (rest front : Sig) (f : ℕ) (at : At) → suc f ≡ length front → All (λ (o : Op). o.arity ≤ 3) rest → reach m (in_heading (front ++ bare rest, HasCount f)) at (follow (map count_tok rest)) ≡ Ok (wants_value (front ++ rest) [] [])
+  others_back : (rest front : Sig) (f : ℕ) (at : At) → suc f ≡ length front → AllByRecursion (λ (o : Op). o.arity ≤ 3) rest → reach m (in_heading (front ++ bare rest, HasCount f)) at (follow (map count_tok rest)) ≡ Ok (wants_value (front ++ rest) [] [])
   others_back [] front f at e h = ap (on at (a_mark LineEnd) []) (cond-false _ _ _ (le-ltb (suc f) (length (front ++ [])) (omega (arith, length-append front []))))
   others_back (o ∷ rest) front f at e h =
       let ks : List Tok = follow (map count_tok rest) in
@@ -66,7 +66,7 @@ module _ (m : Limits) where
       ∙ others_back rest (front ++ (o ∷ [])) (suc f) _ (omega (arith, length-append front (o ∷ []))) h.1
       ∙ ap (λ s. Ok (wants_value s [] [])) (append_assoc front (o ∷ []) rest)
 
-  counts_back : (sig : Sig) → 1 ≤ length sig → All (λ (o : Op). o.arity ≤ 3) sig → Leads m (in_heading (bare sig, WantsCount 0)) (line (map count_tok sig)) (wants_value sig [] [])
+  counts_back : (sig : Sig) → 1 ≤ length sig → AllByRecursion (λ (o : Op). o.arity ≤ 3) sig → Leads m (in_heading (bare sig, WantsCount 0)) (line (map count_tok sig)) (wants_value sig [] [])
   counts_back [] h r at = absurd (omega arith)
   counts_back (o ∷ rest) h r at = count_back [] (bare rest) o 0 at (follow (map count_tok rest)) refl r.0 ∙ others_back rest (o ∷ []) 0 _ refl r.1
 

@@ -1,6 +1,6 @@
 -- The tokens of a line of values, with blanks between, and of a heading.
 use Rattle.std.proofs.Common.{◌≡◌, ℕ, ◌<◌, ◌≤◌, true, false, leb, List, [], ◌∷◌, ◌++◌, map, length, decimal, sym, refl, ap, ◌∙◌, append_assoc, arith, length-append}
-use Rattle.std.specs.List.{AllByRecursion as All}
+use Rattle.std.specs.List.{AllByRecursion}
 use Rattle.std.proofs.lemmas.Fmt.{decimal_nonempty}
 use Rattle.std.proofs.ByRecursion.{All-weaker, All-from_get_or}
 use Rattle.std.proofs.lemmas.Bool.{cond-true, cond-false, and_parts, and_left, leb-true, lt-leb}
@@ -26,7 +26,7 @@ tokens_number (b ∷ bs) r n h e =
 abbrev pub Shows : {A : Type 0} → (A → List ℕ) → (A → Tok) → A → Type 0
 Shows show k x = (r : List ℕ) → Stops word r → tokens (show x ++ r) ≡ k x ∷ tokens r
 
-pub tokens_line : {A : Type 0} (show : A → List ℕ) (k : A → Tok) (xs : List A) → All (Shows show k) xs → (r : List ℕ) → tokens (line_of show xs ++ r) ≡ line (map k xs) ++ tokens r
+pub tokens_line : {A : Type 0} (show : A → List ℕ) (k : A → Tok) (xs : List A) → AllByRecursion (Shows show k) xs → (r : List ℕ) → tokens (line_of show xs ++ r) ≡ line (map k xs) ++ tokens r
 tokens_line show k [] h r = refl
 tokens_line show k (x ∷ []) h r = ap tokens (append_assoc (show x) (10 ∷ []) r) ∙ h.0 (10 ∷ r) refl
 tokens_line show k (x ∷ y ∷ xs) h r =
@@ -35,13 +35,13 @@ tokens_line show k (x ∷ y ∷ xs) h r =
     ∙ ap (λ l. k x ∷ (a_mark Blank ∷ l)) (tokens_line show k (y ∷ xs) h.1 r)
 
 module _ {sig : Sig} (good : Declared sig) where
-  all_spelt : All (λ o. spelt o.name ≡ true) sig
+  all_spelt : AllByRecursion (λ o. spelt o.name ≡ true) sig
   all_spelt = All-from_get_or (λ o. spelt o.name ≡ true) sig _ good.are_spelt
 
   pub tokens_heading : (r : List ℕ) → tokens (heading_text sig ++ r) ≡ heading_tokens sig ++ tokens r
   tokens_heading r =
-      let names : All (Shows (λ o. o.name) name_tok) sig = All-weaker (λ o. spelt o.name ≡ true) (Shows (λ o. o.name) name_tok) (λ o h r e. tokens_name o.name r h e) sig all_spelt in
-      let counts : All (Shows (λ o. decimal o.arity) count_tok) sig = All-weaker (λ o. o.arity ≤ 3) (Shows (λ o. decimal o.arity) count_tok)
+      let names : AllByRecursion (Shows (λ o. o.name) name_tok) sig = All-weaker (λ o. spelt o.name ≡ true) (Shows (λ o. o.name) name_tok) (λ o h r e. tokens_name o.name r h e) sig all_spelt in
+      let counts : AllByRecursion (Shows (λ o. decimal o.arity) count_tok) sig = All-weaker (λ o. o.arity ≤ 3) (Shows (λ o. decimal o.arity) count_tok)
       (λ o h r e. tokens_number (decimal o.arity) r (decimal_nonempty o.arity (omega arith)) (all_digits_decimal o.arity (omega arith)) e) sig (all_ranked good) in
       ap tokens (append_assoc (line_of (λ o. o.name) sig) (line_of (λ o. decimal o.arity) sig) r)
       ∙ tokens_line (λ o. o.name) name_tok sig names (line_of (λ o. decimal o.arity) sig ++ r)

@@ -1,6 +1,6 @@
 -- What reading a sheet is.
 use Rattle.std.proofs.Common.{◌≡◌, ℕ, ◌≤◌, leb, List, [], ◌∷◌, ◌++◌, length, take, drop, Some, Ok, Err, Result, sym, refl, ap, ◌∙◌, subst, inl, inr, append-nil}
-use Rattle.std.specs.List.{AllByRecursion as All}
+use Rattle.std.specs.List.{AllByRecursion}
 use Rattle.std.proofs.lemmas.Bool.{cond-true, cond_both, le-leb, leb-true, leb-false}
 use Rattle.std.proofs.ByRecursion.{All-take, All-drop}
 use Rattle.reading.specs.declared.fault.TextFault.TheVariants.{PastLimit}
@@ -45,7 +45,7 @@ ends (has_word sig grid) at t e = not_both (sym e)
 ends (in_rule sig grid rules d s) at t e = rule_ends sig grid rules d s at t e
 
 -- the first of some tokens is one of them
-first_lexed : (ks : List Tok) → All Lexed ks → (k : Tok) → first_of ks ≡ Some k → Lexed k
+first_lexed : (ks : List Tok) → AllByRecursion Lexed ks → (k : Tok) → first_of ks ≡ Some k → Lexed k
 first_lexed [] l k e = no_some e
 first_lexed (j ∷ ks) l k e = subst Lexed (same_some e) l.0
 
@@ -66,7 +66,7 @@ module _ (b : List ℕ) where
       let y = run_stops limits start origin (tokens b) f e in
       let ks : List Tok = take y.before (tokens b) in
       let w : Wrong = first_of (drop y.before (tokens b)) in
-      let lexed : All Lexed ks = All-take Lexed y.before (tokens b) (tokens_lexed 0 b) in
+      let lexed : AllByRecursion Lexed ks = All-take Lexed y.before (tokens b) (tokens_lexed 0 b) in
       let next = first_lexed (drop y.before (tokens b)) (All-drop Lexed y.before (tokens b) (tokens_lexed 0 b)) in
       let z = tells start origin ks y.stand lexed none refl y.there in
       let t = begun y.stand z.is_good in

@@ -1,6 +1,6 @@
 -- No sheet goes on with what is refused, but for a limit.
 use Rattle.std.proofs.Common.{◌≡◌, ℕ, ◌+◌, ◌≤◌, List, [], ◌∷◌, ◌++◌, length, Some, None, Ok, Err, sym, ap, ◌∙◌, subst, arith}
-use Rattle.std.specs.List.{AllByRecursion as All}
+use Rattle.std.specs.List.{AllByRecursion}
 use Rattle.terms.specs.Term.{Term, symbols}
 use Rattle.terms.specs.Rule.{Rule, levels}
 use Rattle.reading.specs.declared.heading.Stage.TheVariants.{WantsName}
@@ -28,7 +28,7 @@ total f (r ∷ rs) = f r.left + (f r.right + total f rs)
 abbrev wide : Sheet → Limits
 wide s = record { operators = 32 + length s.operators; rules = 32 + length s.rules; symbols = 32 + total symbols s.rules; levels = 16 + total levels s.rules }
 
-small : (a b : ℕ) (rs : List Rule) → total symbols rs ≤ a → total levels rs ≤ b → All (λ (r : Rule). ((symbols r.left ≤ a) × (levels r.left ≤ b)) × ((symbols r.right ≤ a) × (levels r.right ≤ b))) rs
+small : (a b : ℕ) (rs : List Rule) → total symbols rs ≤ a → total levels rs ≤ b → AllByRecursion (λ (r : Rule). ((symbols r.left ≤ a) × (levels r.left ≤ b)) × ((symbols r.right ≤ a) × (levels r.right ≤ b))) rs
 small a b [] h j = tt
 small a b (r ∷ rs) h j = (((omega arith, omega arith), (omega arith, omega arith)), small a b rs (omega arith) (omega arith))
 

@@ -1,6 +1,6 @@
 -- Each token that is accepted is one more of the tokens read, and one that is refused has its cause.
 use Rattle.std.proofs.Common.{◌≡◌, List, [], ◌∷◌, ◌++◌, Some, None, Ok, Err, sym, refl, ap, ◌∙◌, subst, append_assoc, append-nil, arith}
-use Rattle.std.specs.List.{AllByRecursion as All}
+use Rattle.std.specs.List.{AllByRecursion}
 use Rattle.terms.specs.Signature.{Sig}
 use Rattle.reading.specs.declared.token.At.{At}
 use Rattle.reading.specs.declared.heading.Stage.TheVariants.{WantsName, HasName, WantsCount, HasCount, Done}
@@ -63,7 +63,7 @@ pub record Told (s : Stand) (at : At) (ks : List Tok) (u : Stand) : Type 0 where
 told_first : (s v u : Stand) (at : At) (k : Tok) (ks : List Tok) → stand_tokens v ≡ stand_tokens s ++ (k ∷ []) → Told v (past at k) ks u → Told s at (k ∷ ks) u
 told_first s v u at k ks e z = record { is_good = z.is_good; so_far = z.so_far ∙ ap (λ l. l ++ ks) e ∙ append_assoc (stand_tokens s) (k ∷ []) ks; place = z.place }
 
-pub tells : (s : Stand) (at : At) (ks : List Tok) (u : Stand) → All Lexed ks → Good s → Behind (stand_tokens s) at → reach limits s at ks ≡ Ok u → Told s at ks u
+pub tells : (s : Stand) (at : At) (ks : List Tok) (u : Stand) → AllByRecursion Lexed ks → Good s → Behind (stand_tokens s) at → reach limits s at ks ≡ Ok u → Told s at ks u
 tells s at [] u l g p e = subst (Told s at []) (same_ok e) (record { is_good = g; so_far = sym (append-nil (stand_tokens s)); place = p })
 tells s at (k ∷ ks) u l g p e =
     let (v, q, r) = reach_first limits s at k ks u e in

@@ -1,6 +1,6 @@
 -- What the tokens of a text are: a name is spelt as one, a number is digits, an instrument has digits behind '#', and a variable is one of eight.
 use Rattle.std.proofs.Common.{◌≡◌, ℕ, zero, suc, ◌-◌, ◌<◌, true, ◌&&◌, eqb, leb, List, [], ◌∷◌, length, drop, arith}
-use Rattle.std.specs.List.{AllByRecursion as All}
+use Rattle.std.specs.List.{AllByRecursion}
 use Rattle.std.proofs.lemmas.Bool.{cond_both, leb-true, and_parts}
 use Rattle.terms.specs.Signature.{lower, digit, spelt}
 use Rattle.reading.specs.declared.token.Mark.{Mark}
@@ -10,8 +10,8 @@ use Rattle.reading.proofs.Tokens.{first_part, Lexed as Shaped}
 
 abbrev pub Lexed : Tok → Type 0
 Lexed (a_name s) = spelt s ≡ true
-Lexed (a_number s) = All (λ d. digit d ≡ true) s
-Lexed (an_instrument s) = All (λ d. digit d ≡ true) (drop 1 s)
+Lexed (a_number s) = AllByRecursion (λ d. digit d ≡ true) s
+Lexed (an_instrument s) = AllByRecursion (λ d. digit d ≡ true) (drop 1 s)
 Lexed (a_variable x) = x < 8
 Lexed (a_mark m) = Unit {0}
 Lexed (a_stray b) = Unit {0}
@@ -64,7 +64,7 @@ first_lettered b bs =
     (λ _. cond_both (digit b) _ _ Lettered (λ _. record { small = tt })
     (λ _. cond_both (eqb b 35) _ _ Lettered (λ _. record { small = tt }) (λ _. single_lettered b)))
 
-pub tokens_lexed : (k : ℕ) (bs : List ℕ) → All Lexed (tokens_from k bs)
+pub tokens_lexed : (k : ℕ) (bs : List ℕ) → AllByRecursion Lexed (tokens_from k bs)
 tokens_lexed zero [] = tt
 tokens_lexed (suc k) [] = tt
 tokens_lexed zero (b ∷ bs) = (both (first_token b bs) (first_part b bs).lexed (first_lettered b bs), tokens_lexed (length (token_bytes (first_token b bs)) - 1) bs)

@@ -1,6 +1,6 @@
 -- The tokens of a sheet's text.
 use Rattle.std.proofs.Common.{◌≡◌, ℕ, suc, ◌%◌, List, [], ◌∷◌, ◌++◌, map, Some, None, codes, decimal, Option, sym, refl, ap, ◌∙◌, append_assoc, arith}
-use Rattle.std.specs.List.{AllByRecursion as All}
+use Rattle.std.specs.List.{AllByRecursion}
 use Rattle.std.proofs.lemmas.Fmt.{decimal_nonempty}
 use Rattle.terms.specs.Rule.{Rule, RuleOf}
 use Rattle.terms.specs.Signature.{Sig, Declared}
@@ -25,7 +25,7 @@ value_shows None (Some n) s h r e = absurd h
 value_shows (Some i) None s h r e = absurd h
 value_shows (Some i) (Some n) s h r e = tokens_number (decimal n) r (decimal_nonempty n (omega (arith, h.1))) (all_digits_decimal n (omega (arith, h.1))) e
 
-line_shows : (n : ℕ) (sig : Sig) (vs : List Value) → LineIn n sig vs → All (Shows value_text value_tok) vs
+line_shows : (n : ℕ) (sig : Sig) (vs : List Value) → LineIn n sig vs → AllByRecursion (Shows value_text value_tok) vs
 line_shows n [] [] h = tt
 line_shows n [] (v ∷ vs) h = absurd h
 line_shows n (o ∷ os) [] h = absurd h
@@ -50,7 +50,7 @@ tokens_rule sig good r h b =
     ∙ ap (λ l. tokens left ++ (a_mark Equals ∷ l)) (tokens_before good r.right h.right_term (10 ∷ b) refl)
     ∙ simp append_assoc
 
-tokens_rules : (sig : Sig) → Declared sig → (rs : List Rule) → All (RuleOf sig) rs → tokens (rules_text sig rs) ≡ rules_tokens sig rs
+tokens_rules : (sig : Sig) → Declared sig → (rs : List Rule) → AllByRecursion (RuleOf sig) rs → tokens (rules_text sig rs) ≡ rules_tokens sig rs
 tokens_rules sig good [] h = refl
 tokens_rules sig good (r ∷ rs) h = tokens_rule sig good r h.0 (rules_text sig rs) ∙ ap (λ l. rule_tokens sig r ++ l) (tokens_rules sig good rs h.1)
 

@@ -1,4 +1,4 @@
--- Facts about lists that the shelf lacks.
+-- Facts about lists that the library lacks.
 use Rattle.std.proofs.Common.{◌≡◌, ℕ, zero, suc, List, [], ◌∷◌, take, set, refl, ap}
 
 pub take_of_set : {X : Type 0} (n : ℕ) (xs : List X) (i : ℕ) (x : X) → take n (set xs i x) ≡ set (take n xs) i x

@@ -82,7 +82,7 @@ impl Operator {
 
     pub(crate) fn new(name: &[u8], arity: u8) -> Operator
         requires { length name.now ≤ 12 }
-        ensures { op_from result ≡ record { name = name.entry.now; arity = arity } }
+        ensures { op_from result ≡ record { name = name.now; arity = arity } }
     {
         Operator {
             name: Name::new(name),
