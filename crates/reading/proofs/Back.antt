@@ -15,11 +15,11 @@ use Rattle.reading.proofs.Names.{found_name}
 use Rattle.reading.proofs.Lexing.{closing, tokens_term}
 use Rattle.reading.proofs.Running.{reach, passed, reach_join}
 
-abbrev join : Terms → Terms → Terms
+abbrev pub join : Terms → Terms → Terms
 join nil us = us
 join (cons t ts) us = cons t (join ts us)
 
-join_then : (us : Terms) (u : Term) (ts : Terms) → join (and_then us u) ts ≡ join us (cons u ts)
+pub join_then : (us : Terms) (u : Term) (ts : Terms) → join (and_then us u) ts ≡ join us (cons u ts)
 join_then nil u ts = refl
 join_then (cons v us) u ts = ap (cons v) (join_then us u ts)
 
@@ -27,7 +27,7 @@ join_nil : (us : Terms) → join us nil ≡ us
 join_nil nil = refl
 join_nil (cons u us) = ap (cons u) (join_nil us)
 
-then_join : (us : Terms) (u : Term) → and_then us u ≡ join us (cons u nil)
+pub then_join : (us : Terms) (u : Term) → and_then us u ≡ join us (cons u nil)
 then_join us u = sym (join_nil (and_then us u)) ∙ join_then us u nil
 
 -- some tokens are read as the term, whatever it stands in

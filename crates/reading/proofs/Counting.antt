@@ -28,7 +28,7 @@ then_on P (Ok g) f sig h e = (g, h, e)
 then_on P (Err x) f sig h e = not_both (sym e)
 
 -- a count of the operator behind the first ones
-count_set : (front rest : Sig) (o : Op) (f n : ℕ) → length front ≡ f
+pub count_set : (front rest : Sig) (o : Op) (f n : ℕ) → length front ≡ f
     → set (front ++ (o ∷ rest)) f (record { name = (op_of (front ++ (o ∷ rest)) f).name; arity = n }) ≡ (front ++ (record { name = o.name; arity = n } ∷ [])) ++ rest
 count_set front rest o f n e =
     set_at front o rest _ f e

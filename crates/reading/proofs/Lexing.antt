@@ -48,14 +48,14 @@ pub stops_digit : (r : List ℕ) → Stops word r → Stops digit r
 stops_digit [] h = tt
 stops_digit (b ∷ r) h = (or_parts (lower b) (digit b) h).1
 
-tokens_instrument : (ds r : List ℕ) → AllDigits ds → Stops word r → tokens (35 ∷ (ds ++ r)) ≡ an_instrument (35 ∷ ds) ∷ tokens r
+pub tokens_instrument : (ds r : List ℕ) → AllDigits ds → Stops word r → tokens (35 ∷ (ds ++ r)) ≡ an_instrument (35 ∷ ds) ∷ tokens r
 tokens_instrument ds r h e = tokens_first 35 ds r (an_instrument (35 ∷ ds)) (ap (λ l. an_instrument (35 ∷ l)) (front_is digit (length (ds ++ r)) ds r h (omega (arith, length-append ds r)) (stops_digit r e))) refl
 
-stops_arguments : (sig : Sig) (ts : Terms) (r : List ℕ) → Stops word r → Stops word (arguments_text sig ts ++ r)
+pub stops_arguments : (sig : Sig) (ts : Terms) (r : List ℕ) → Stops word r → Stops word (arguments_text sig ts ++ r)
 stops_arguments sig nil r h = h
 stops_arguments sig (cons t ts) r h = refl
 
-stops_others : (sig : Sig) (ts : Terms) (r : List ℕ) → Stops word (others_text sig ts ++ r)
+pub stops_others : (sig : Sig) (ts : Terms) (r : List ℕ) → Stops word (others_text sig ts ++ r)
 stops_others sig nil r = refl
 stops_others sig (cons t ts) r = refl
 
@@ -71,23 +71,23 @@ parts sig (instrument n) = an_instrument (35 ∷ decimal n) ∷ []
 parts sig (apply f ts) = a_name (op_of sig f).name ∷ (arguments_so_far sig ts ++ closing ts)
 
 -- a text gives these tokens, whatever follows that does not go on with a name or a number
-abbrev Lexes : List ℕ → List Tok → Type 0
+abbrev pub Lexes : List ℕ → List Tok → Type 0
 Lexes s ks = (r : List ℕ) → Stops word r → tokens (s ++ r) ≡ ks ++ tokens r
 
-lexes_alone : (s : List ℕ) (ks : List Tok) → Lexes s ks → tokens s ≡ ks
+pub lexes_alone : (s : List ℕ) (ks : List Tok) → Lexes s ks → tokens s ≡ ks
 lexes_alone s ks h = ap tokens (sym (append-nil s)) ∙ h [] tt ∙ append-nil ks
 
 -- and this one whatever follows
-abbrev LexesOn : List ℕ → List Tok → Type 0
+abbrev pub LexesOn : List ℕ → List Tok → Type 0
 LexesOn s ks = (r : List ℕ) → tokens (s ++ r) ≡ ks ++ tokens r
 
 -- a term, the further ones, and the closing parenthesis
-lexes_row : (sig : Sig) (t : Term) (ts : Terms) → Lexes (text_of sig t) (parts sig t) → LexesOn (others_text sig ts) (further_arguments sig ts ++ (a_mark Closing ∷ []))
+pub lexes_row : (sig : Sig) (t : Term) (ks : List Tok) (ts : Terms) → Lexes (text_of sig t) ks → LexesOn (others_text sig ts) (further_arguments sig ts ++ (a_mark Closing ∷ []))
     → LexesOn (text_of sig t ++ others_text sig ts) ((tokens (text_of sig t) ++ further_arguments sig ts) ++ (a_mark Closing ∷ []))
-lexes_row sig t ts h j r =
+lexes_row sig t ks ts h j r =
     ap tokens (append_assoc (text_of sig t) (others_text sig ts) r)
     ∙ h (others_text sig ts ++ r) (stops_others sig ts r)
-    ∙ ap (λ l. l ++ tokens (others_text sig ts ++ r)) (sym (lexes_alone (text_of sig t) (parts sig t) h))
+    ∙ ap (λ l. l ++ tokens (others_text sig ts ++ r)) (sym (lexes_alone (text_of sig t) ks h))
     ∙ ap (λ l. tokens (text_of sig t) ++ l) (j r)
     ∙ simp append_assoc
 
@@ -104,11 +104,11 @@ module _ {sig : Sig} (good : Declared sig) where
 
     lexes_arguments : (ts : Terms) → Tickets sig ts → LexesOn (arguments_text sig ts) (arguments_so_far sig ts ++ closing ts)
     lexes_arguments nil h r = refl
-    lexes_arguments (cons t ts) h r = ap (λ l. a_mark Opening ∷ l) (lexes_row sig t ts (lexes_term t h.0) (lexes_others ts h.1) r)
+    lexes_arguments (cons t ts) h r = ap (λ l. a_mark Opening ∷ l) (lexes_row sig t (parts sig t) ts (lexes_term t h.0) (lexes_others ts h.1) r)
 
     lexes_others : (ts : Terms) → Tickets sig ts → LexesOn (others_text sig ts) (further_arguments sig ts ++ (a_mark Closing ∷ []))
     lexes_others nil h r = refl
-    lexes_others (cons t ts) h r = ap (λ l. a_mark Comma ∷ l) (lexes_row sig t ts (lexes_term t h.0) (lexes_others ts h.1) r)
+    lexes_others (cons t ts) h r = ap (λ l. a_mark Comma ∷ l) (lexes_row sig t (parts sig t) ts (lexes_term t h.0) (lexes_others ts h.1) r)
 
   pub tokens_term : (t : Term) → Ticket sig t → tokens (text_of sig t) ≡ parts sig t
   tokens_term t h = lexes_alone (text_of sig t) (parts sig t) (lexes_term t h)

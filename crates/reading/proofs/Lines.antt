@@ -50,7 +50,7 @@ whole_heading sig = whole_append (line (map name_tok sig)) (line (map count_tok 
 digit_not_lower : (b : ℕ) → digit b ≡ true → lower b ≡ false
 digit_not_lower b h = and_left (leb 97 b) (leb b 122) (lt-leb 97 b (omega (arith, leb-true b 57 (and_parts (leb 48 b) (leb b 57) h).1)))
 
-tokens_number : (s r : List ℕ) → 0 < length s → AllDigits s → Stops word r → tokens (s ++ r) ≡ a_number s ∷ tokens r
+pub tokens_number : (s r : List ℕ) → 0 < length s → AllDigits s → Stops word r → tokens (s ++ r) ≡ a_number s ∷ tokens r
 tokens_number [] r n h e = absurd (omega arith)
 tokens_number (b ∷ bs) r n h e =
     tokens_first b bs r (a_number (b ∷ bs))

@@ -153,12 +153,12 @@ heading_told ks at all l q =
 
 -- the heading of a signature is read back
 
-bare_found : (i : ℕ) (sig : Sig) (s : List ℕ) → found_from i (bare sig) s ≡ found_from i sig s
+pub bare_found : (i : ℕ) (sig : Sig) (s : List ℕ) → found_from i (bare sig) s ≡ found_from i sig s
 bare_found i [] s = refl
 bare_found i (o ∷ os) s = ap (cond (bytes_eq o.name s) (Some i)) (bare_found (suc i) os s)
 
 -- a name that stands behind some others is none of them
-unfound : (front rest : Sig) (o : Op) (r : Option ℕ) → Apart (front ++ (o ∷ rest)) → found front o.name ≡ r → found front o.name ≡ None
+pub unfound : (front rest : Sig) (o : Op) (r : Option ℕ) → Apart (front ++ (o ∷ rest)) → found front o.name ≡ r → found front o.name ≡ None
 unfound front rest o None a e = e
 unfound front rest o (Some f) a e =
     let (h, q) = found_is front o.name f e in

@@ -23,10 +23,10 @@ use Rattle.reading.proofs.States.{name_of, stack_tokens, state_tokens, arguments
 
 -- places
 
-same_at : {x y m n : ℕ} → x ≡ y → m ≡ n → ◌≡◌ {A = At} (record { place = x; line = m }) (record { place = y; line = n })
+pub same_at : {x y m n : ℕ} → x ≡ y → m ≡ n → ◌≡◌ {A = At} (record { place = x; line = m }) (record { place = y; line = n })
 same_at p q = cc
 
-length_whole : (ks : List Tok) (k : Tok) → length (whole (ks ++ (k ∷ []))) ≡ length (whole ks) + length (token_bytes k)
+pub length_whole : (ks : List Tok) (k : Tok) → length (whole (ks ++ (k ∷ []))) ≡ length (whole ks) + length (token_bytes k)
 length_whole [] k = omega (arith, length-append (token_bytes k) [])
 length_whole (j ∷ ks) k = omega (arith, length-append (token_bytes j) (whole (ks ++ (k ∷ []))), length-append (token_bytes j) (whole ks), length_whole ks k)
 

@@ -1,50 +1,21 @@
 -- The heading of a signature is read as that signature.
-use Rattle.std.proofs.Common.{◌≡◌, ℕ, suc, ◌<◌, ◌≤◌, cond, List, [], ◌∷◌, ◌++◌, map, length, set, Some, None, Ok, Option, sym, refl, ap, ◌∙◌, subst, append_assoc, append-nil, arith, length-append}
+use Rattle.std.proofs.Common.{◌≡◌, ℕ, suc, ◌<◌, ◌≤◌, List, [], ◌∷◌, ◌++◌, map, length, None, Ok, sym, refl, ap, ◌∙◌, subst, append_assoc, append-nil, arith, length-append}
 use Rattle.std.specs.List.{AllByRecursion}
-use Rattle.std.specs.Str.{bytes_eq}
-use Rattle.std.proofs.lemmas.List.{length-map, map_push, get_or_append_left, get_or_at, set_at}
+use Rattle.std.proofs.lemmas.List.{length-map, map_push}
 use Rattle.std.proofs.lemmas.Bool.{cond-true, cond-false, lt-leb, lt-ltb, le-ltb}
-use Rattle.terms.specs.Signature.{Op, Sig, op_of, Apart, Declared, found_from, found}
+use Rattle.terms.specs.Signature.{Op, Sig, Apart, Declared, found}
 use Rattle.reading.specs.declared.token.At.{At}
 use Rattle.reading.specs.declared.token.Mark.TheVariants.{Blank, LineEnd}
 use Rattle.reading.specs.declared.heading.Stage.TheVariants.{WantsName, HasName, WantsCount, HasCount}
 use Rattle.reading.specs.Tokens.{Tok, a_mark, past}
 use Rattle.reading.proofs.Digits.{numbered_decimal}
-use Rattle.reading.proofs.Names.{found_is}
+use Rattle.reading.proofs.Counting.{count_set, bare_op, bare}
+use Rattle.reading.proofs.Naming.{bare_found, unfound}
 use Rattle.reading.proofs.Lines.{follow, line, name_tok, count_tok, heading_tokens, all_ranked}
 use Rattle.sheet_reading.specs.Heading.{Outcome, named_once, counted, and_on}
 use Rattle.sheet_reading.specs.Sheet.{Limits}
 use Rattle.sheet_reading.specs.Reading.{in_heading, wants_value, Move, headed}
 use Rattle.sheet_reading.proofs.Going.{reach, Leads}
-
--- an operator without its count
-abbrev bare_op : Op → Op
-bare_op o = record { name = o.name; arity = 0 }
-
-abbrev bare : Sig → Sig
-bare sig = map bare_op sig
-
-bare_found : (i : ℕ) (sig : Sig) (s : List ℕ) → found_from i (bare sig) s ≡ found_from i sig s
-bare_found i [] s = refl
-bare_found i (o ∷ os) s = ap (cond (bytes_eq o.name s) (Some i)) (bare_found (suc i) os s)
-
--- a name that stands behind some others is none of them
-unfound : (front rest : Sig) (o : Op) (r : Option ℕ) → Apart (front ++ (o ∷ rest)) → found front o.name ≡ r → found front o.name ≡ None
-unfound front rest o None a e = e
-unfound front rest o (Some f) a e =
-    let (h, q) = found_is front o.name f e in
-    let many = length-append front (o ∷ rest) in
-    let same : (op_of (front ++ (o ∷ rest)) f).name ≡ (op_of (front ++ (o ∷ rest)) (length front)).name =
-    ap (λ (p : Op). p.name) (get_or_append_left front (o ∷ rest) _ f h) ∙ q ∙ sym (ap (λ (p : Op). p.name) (get_or_at front o rest _ (length front) refl)) in
-    absurd (omega (arith, a f (length front) (omega arith, omega arith, same)))
-
--- a count of the operator behind the first ones
-count_set : (front rest : Sig) (o : Op) (f n : ℕ) → length front ≡ f
-    → set (front ++ (o ∷ rest)) f (record { name = (op_of (front ++ (o ∷ rest)) f).name; arity = n }) ≡ (front ++ (record { name = o.name; arity = n } ∷ [])) ++ rest
-count_set front rest o f n e =
-    set_at front o rest _ f e
-    ∙ ap (λ (p : Op). front ++ (record { name = p.name; arity = n } ∷ rest)) (get_or_at front o rest _ f e)
-    ∙ sym (append_assoc front (record { name = o.name; arity = n } ∷ []) rest)
 
 module _ (m : Limits) where
   -- what follows a token

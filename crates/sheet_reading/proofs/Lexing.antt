@@ -1,18 +1,15 @@
 -- The tokens of a term's text.
-use Rattle.std.proofs.Common.{◌≡◌, ℕ, ◌+◌, ◌%◌, ◌<◌, true, ◌&&◌, leb, List, [], ◌∷◌, ◌++◌, length, decimal, sym, refl, ap, ◌∙◌, append_assoc, append-nil, mod-eq_of_lt, arith, length-append}
+use Rattle.std.proofs.Common.{◌≡◌, ℕ, ◌+◌, ◌%◌, ◌<◌, true, ◌&&◌, leb, List, [], ◌∷◌, ◌++◌, decimal, sym, refl, ap, ◌∙◌, append_assoc, mod-eq_of_lt, arith}
 use Rattle.std.proofs.lemmas.Bool.{cond-true, cond-false, and_from, and_left, and_right, le-leb, lt-leb, ne_eqb}
 use Rattle.terms.specs.Term.{Term, variable, instrument, apply, Terms, nil, cons}
-use Rattle.terms.specs.Signature.{Sig, op_of, digit, word, Declared}
+use Rattle.terms.specs.Signature.{Sig, op_of, word, Declared}
 use Rattle.terms.specs.Ticket.{TermOf, TermsOf}
 use Rattle.terms.specs.Text.{text_of, arguments_text, others_text}
 use Rattle.reading.specs.declared.token.Mark.TheVariants.{Opening, Closing, Comma}
 use Rattle.reading.specs.Tokens.{Tok, a_name, an_instrument, a_variable, a_mark, first_token, tokens}
-use Rattle.reading.specs.Laws.{AllDigits, further_arguments, arguments_so_far}
+use Rattle.reading.specs.Laws.{further_arguments, arguments_so_far}
 use Rattle.reading.proofs.Digits.{all_digits_decimal}
-use Rattle.reading.proofs.Lexing.{Stops, front_is, tokens_first, tokens_name, stops_digit, closing}
-
-tokens_instrument : (ds r : List ℕ) → AllDigits ds → Stops word r → tokens (35 ∷ (ds ++ r)) ≡ an_instrument (35 ∷ ds) ∷ tokens r
-tokens_instrument ds r h e = tokens_first 35 ds r (an_instrument (35 ∷ ds)) (ap (λ l. an_instrument (35 ∷ l)) (front_is digit (length (ds ++ r)) ds r h (omega (arith, length-append ds r)) (stops_digit r e))) refl
+use Rattle.reading.proofs.Lexing.{Stops, tokens_first, tokens_name, tokens_instrument, stops_arguments, closing, Lexes, lexes_alone, LexesOn, lexes_row}
 
 -- 'A' to 'H'
 letter : (x : ℕ) → x < 8 → (leb 65 (65 + x) && leb (65 + x) 72) ≡ true
@@ -28,40 +25,11 @@ first_variable x r h =
 tokens_variable : (x : ℕ) (r : List ℕ) → x < 8 → tokens ((65 + x % 16) ∷ r) ≡ a_variable x ∷ tokens r
 tokens_variable x r h = ap (λ n. tokens ((65 + n) ∷ r)) (mod-eq_of_lt {n = x} {m = 16} (omega arith)) ∙ tokens_first (65 + x) [] r (a_variable x) (first_variable x r h) refl
 
-stops_arguments : (sig : Sig) (ts : Terms) (r : List ℕ) → Stops word r → Stops word (arguments_text sig ts ++ r)
-stops_arguments sig nil r h = h
-stops_arguments sig (cons t ts) r h = refl
-
-stops_others : (sig : Sig) (ts : Terms) (r : List ℕ) → Stops word (others_text sig ts ++ r)
-stops_others sig nil r = refl
-stops_others sig (cons t ts) r = refl
-
 -- the tokens of a term, by its parts
 abbrev pub parts : Sig → Term → List Tok
 parts sig (variable x) = a_variable x ∷ []
 parts sig (instrument n) = an_instrument (35 ∷ decimal n) ∷ []
 parts sig (apply f ts) = a_name (op_of sig f).name ∷ (arguments_so_far sig ts ++ closing ts)
-
--- a text gives these tokens, whatever follows that does not go on with a name or a number
-abbrev Lexes : List ℕ → List Tok → Type 0
-Lexes s ks = (r : List ℕ) → Stops word r → tokens (s ++ r) ≡ ks ++ tokens r
-
-lexes_alone : (s : List ℕ) (ks : List Tok) → Lexes s ks → tokens s ≡ ks
-lexes_alone s ks h = ap tokens (sym (append-nil s)) ∙ h [] tt ∙ append-nil ks
-
--- and this one whatever follows
-abbrev LexesOn : List ℕ → List Tok → Type 0
-LexesOn s ks = (r : List ℕ) → tokens (s ++ r) ≡ ks ++ tokens r
-
--- a term, the further ones, and the closing parenthesis
-lexes_row : (sig : Sig) (t : Term) (ts : Terms) → Lexes (text_of sig t) (parts sig t) → LexesOn (others_text sig ts) (further_arguments sig ts ++ (a_mark Closing ∷ []))
-    → LexesOn (text_of sig t ++ others_text sig ts) ((tokens (text_of sig t) ++ further_arguments sig ts) ++ (a_mark Closing ∷ []))
-lexes_row sig t ts h j r =
-    ap tokens (append_assoc (text_of sig t) (others_text sig ts) r)
-    ∙ h (others_text sig ts ++ r) (stops_others sig ts r)
-    ∙ ap (λ l. l ++ tokens (others_text sig ts ++ r)) (sym (lexes_alone (text_of sig t) (parts sig t) h))
-    ∙ ap (λ l. tokens (text_of sig t) ++ l) (j r)
-    ∙ simp append_assoc
 
 module _ {sig : Sig} (good : Declared sig) where
   mutual
@@ -76,11 +44,11 @@ module _ {sig : Sig} (good : Declared sig) where
 
     lexes_arguments : (ts : Terms) → TermsOf sig ts → LexesOn (arguments_text sig ts) (arguments_so_far sig ts ++ closing ts)
     lexes_arguments nil h r = refl
-    lexes_arguments (cons t ts) h r = ap (λ l. a_mark Opening ∷ l) (lexes_row sig t ts (lexes_term t h.0) (lexes_others ts h.1) r)
+    lexes_arguments (cons t ts) h r = ap (λ l. a_mark Opening ∷ l) (lexes_row sig t (parts sig t) ts (lexes_term t h.0) (lexes_others ts h.1) r)
 
     lexes_others : (ts : Terms) → TermsOf sig ts → LexesOn (others_text sig ts) (further_arguments sig ts ++ (a_mark Closing ∷ []))
     lexes_others nil h r = refl
-    lexes_others (cons t ts) h r = ap (λ l. a_mark Comma ∷ l) (lexes_row sig t ts (lexes_term t h.0) (lexes_others ts h.1) r)
+    lexes_others (cons t ts) h r = ap (λ l. a_mark Comma ∷ l) (lexes_row sig t (parts sig t) ts (lexes_term t h.0) (lexes_others ts h.1) r)
 
   pub tokens_term : (t : Term) → TermOf sig t → tokens (text_of sig t) ≡ parts sig t
   tokens_term t h = lexes_alone (text_of sig t) (parts sig t) (lexes_term t h)

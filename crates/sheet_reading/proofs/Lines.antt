@@ -1,26 +1,15 @@
 -- The tokens of a line of values, with blanks between, and of a heading.
-use Rattle.std.proofs.Common.{◌≡◌, ℕ, ◌<◌, ◌≤◌, true, false, leb, List, [], ◌∷◌, ◌++◌, map, length, decimal, sym, refl, ap, ◌∙◌, append_assoc, arith, length-append}
+use Rattle.std.proofs.Common.{◌≡◌, ℕ, ◌≤◌, true, List, [], ◌∷◌, ◌++◌, map, decimal, sym, refl, ap, ◌∙◌, append_assoc, arith}
 use Rattle.std.specs.List.{AllByRecursion}
 use Rattle.std.proofs.lemmas.Fmt.{decimal_nonempty}
 use Rattle.std.proofs.ByRecursion.{All-weaker, All-from_get_or}
-use Rattle.std.proofs.lemmas.Bool.{cond-true, cond-false, and_parts, and_left, leb-true, lt-leb}
-use Rattle.terms.specs.Signature.{Sig, lower, digit, word, spelt, Declared}
+use Rattle.terms.specs.Signature.{Sig, word, spelt, Declared}
 use Rattle.reading.specs.declared.token.Mark.TheVariants.{Blank}
-use Rattle.reading.specs.Tokens.{Tok, a_number, a_mark, tokens}
-use Rattle.reading.specs.Laws.{AllDigits}
+use Rattle.reading.specs.Tokens.{Tok, a_mark, tokens}
 use Rattle.reading.proofs.Digits.{all_digits_decimal}
-use Rattle.reading.proofs.Lexing.{Stops, front_is, tokens_first, tokens_name, stops_digit}
-use Rattle.reading.proofs.Lines.{line, name_tok, count_tok, heading_tokens, all_ranked}
+use Rattle.reading.proofs.Lexing.{Stops, tokens_name}
+use Rattle.reading.proofs.Lines.{line, name_tok, count_tok, heading_tokens, tokens_number, all_ranked}
 use Rattle.sheet_reading.specs.Heading.{line_of, heading_text}
-
-digit_not_lower : (b : ℕ) → digit b ≡ true → lower b ≡ false
-digit_not_lower b h = and_left (leb 97 b) (leb b 122) (lt-leb 97 b (omega (arith, leb-true b 57 (and_parts (leb 48 b) (leb b 57) h).1)))
-
-pub tokens_number : (s r : List ℕ) → 0 < length s → AllDigits s → Stops word r → tokens (s ++ r) ≡ a_number s ∷ tokens r
-tokens_number [] r n h e = absurd (omega arith)
-tokens_number (b ∷ bs) r n h e =
-    tokens_first b bs r (a_number (b ∷ bs))
-    (cond-false _ _ _ (digit_not_lower b h.0) ∙ cond-true _ _ _ h.0 ∙ ap (λ l. a_number (b ∷ l)) (front_is digit (length (bs ++ r)) bs r h.1 (omega (arith, length-append bs r)) (stops_digit r e))) refl
 
 -- a part's token is read, whatever follows that does not go on with it
 abbrev pub Shows : {A : Type 0} → (A → List ℕ) → (A → Tok) → A → Type 0

@@ -16,7 +16,7 @@ use Rattle.reading.specs.Laws.{further_arguments, arguments_so_far}
 use Rattle.reading.proofs.Digits.{numbered_decimal}
 use Rattle.reading.proofs.Lexing.{closing}
 use Rattle.reading.proofs.Running.{passed}
-use Rattle.reading.proofs.Back.{name_step}
+use Rattle.reading.proofs.Back.{join, join_then, then_join, name_step}
 use Rattle.sheet_reading.specs.declared.fault.SheetFault.{SheetFault}
 use Rattle.sheet_reading.specs.Heading.{and_on}
 use Rattle.sheet_reading.specs.Sheet.{Limits, SideWithin}
@@ -25,21 +25,6 @@ use Rattle.sheet_reading.proofs.Lexing.{tokens_term}
 use Rattle.sheet_reading.proofs.SideFacts.{HandShaped, side_reach}
 use Rattle.sheet_reading.proofs.SideStates.{MayStand, Fronted}
 use Rattle.sheet_reading.proofs.SideSteps.{front_within}
-
-abbrev join : Terms → Terms → Terms
-join nil us = us
-join (cons t ts) us = cons t (join ts us)
-
-join_then : (us : Terms) (u : Term) (ts : Terms) → join (and_then us u) ts ≡ join us (cons u ts)
-join_then nil u ts = refl
-join_then (cons v us) u ts = ap (cons v) (join_then us u ts)
-
-join_nil : (us : Terms) → join us nil ≡ us
-join_nil nil = refl
-join_nil (cons u us) = ap (cons u) (join_nil us)
-
-then_join : (us : Terms) (u : Term) → and_then us u ≡ join us (cons u nil)
-then_join us u = sym (join_nil (and_then us u)) ∙ join_then us u nil
 
 -- a run comes to the last of these arguments of f, with n to follow
 abbrev Leads : Result State SheetFault → ℕ → At → ℕ → Context → Terms → Type 0

@@ -1,15 +1,16 @@
 -- The tokens that are read where the reading of a sheet stands.
-use Rattle.std.proofs.Common.{◌≡◌, ℕ, suc, ◌+◌, ◌≤◌, List, [], ◌∷◌, ◌++◌, map, length, take, Some, None, codes, decimal, sym, refl, ap, ◌∙◌, append_assoc, append-nil, arith, length-append}
+use Rattle.std.proofs.Common.{◌≡◌, suc, ◌≤◌, List, [], ◌∷◌, ◌++◌, map, length, take, Some, None, codes, decimal, sym, refl, ap, ◌∙◌, append_assoc, append-nil, arith}
 use Rattle.terms.specs.Rule.{Rule}
 use Rattle.terms.specs.Signature.{Sig}
 use Rattle.terms.specs.Text.{text_of}
 use Rattle.reading.specs.declared.token.At.{At}
 use Rattle.reading.specs.declared.token.Mark.TheVariants.{Equals, Dash, Blank, LineEnd}
 use Rattle.reading.specs.declared.heading.Stage.TheVariants.{WantsName, HasName, WantsCount, HasCount, Done}
-use Rattle.reading.specs.Tokens.{Tok, a_name, a_number, a_mark, token_bytes, tokens, whole, lines, past}
+use Rattle.reading.specs.Tokens.{Tok, a_name, a_number, a_mark, tokens, whole, lines, past}
 use Rattle.reading.specs.Heading.{Head}
 use Rattle.reading.proofs.Lines.{follow, line, name_tok, count_tok, heading_tokens}
 use Rattle.reading.proofs.States.{state_tokens}
+use Rattle.reading.proofs.Telling.{same_at, length_whole}
 use Rattle.sheet_reading.specs.Values.{Value, Grid}
 use Rattle.sheet_reading.specs.Sheet.{Sheet}
 use Rattle.sheet_reading.specs.Sides.{Hand, on_left, on_right}
@@ -127,13 +128,6 @@ stand_tokens (has_word sig grid) = front_tokens sig grid ++ (the_word ∷ [])
 stand_tokens (in_rule sig grid rules d s) = before_side sig grid rules d ++ state_tokens sig s
 
 -- the place behind one token more
-
-same_at : {x y m n : ℕ} → x ≡ y → m ≡ n → ◌≡◌ {A = At} (record { place = x; line = m }) (record { place = y; line = n })
-same_at p q = cc
-
-length_whole : (ks : List Tok) (k : Tok) → length (whole (ks ++ (k ∷ []))) ≡ length (whole ks) + length (token_bytes k)
-length_whole [] k = omega (arith, length-append (token_bytes k) [])
-length_whole (j ∷ ks) k = omega (arith, length-append (token_bytes j) (whole (ks ++ (k ∷ []))), length-append (token_bytes j) (whole ks), length_whole ks k)
 
 pub behind_past : (ks : List Tok) (at : At) (k : Tok) (ls : List Tok) → Behind ks at → ls ≡ ks ++ (k ∷ []) → Behind ls (past at k)
 behind_past ks at k ls p e =
