@@ -12,16 +12,17 @@ use Rattle.reading.specs.declared.fault.SheetFault.{SheetFault}
 use Rattle.reading.specs.Tokens.{Tok, a_name, a_number, an_instrument, a_variable, a_mark, a_stray, past}
 use Rattle.reading.specs.Numbers.{numbered}
 use Rattle.reading.specs.Heading.{Head, Outcome, counted, wants_count, has_count_mark, has_count, head_step, and_on, head_run}
+use Rattle.reading.specs.HeadingLaw.{OfHeading}
 use Rattle.reading.specs.Laws.{AllDigits}
 use Rattle.reading.proofs.Equal.{not_both, same_ok}
 use Rattle.reading.proofs.Digits.{numbers, numbered_decimal}
 use Rattle.reading.proofs.Tokens.{Lexed}
 use Rattle.reading.proofs.Lines.{follow, line, count_tok}
 
--- what is said of the state behind a token, if the token is accepted
+-- what is said of the state behind a token, if the token is accepted; its fault is one of a heading
 abbrev pub Then : (Head → Type 0) → Outcome → Type 0
 Then P (Ok g) = P g
-Then P (Err e) = Unit {0}
+Then P (Err e) = OfHeading e
 
 pub then_on : (P : Head → Type 0) (r : Outcome) (f : Head → Result Sig SheetFault) (sig : Sig) → Then P r → and_on r f ≡ Ok sig → (g : Head) × P g × (f g ≡ Ok sig)
 then_on P (Ok g) f sig h e = (g, h, e)
@@ -38,14 +39,14 @@ count_set front rest o f n e =
 -- what an accepted line says
 
 module _ (sig : Sig) (f : ℕ) where
-  abbrev Counted : Tok → Head → Type 0
+  abbrev pub Counted : Tok → Head → Type 0
   Counted k g = (n : ℕ) × (n ≤ 3) × (k ≡ a_number (decimal n)) × (g ≡ (set sig f (record { name = (op_of sig f).name; arity = n }), HasCount f))
 
   number_counted : (at : At) (s : List ℕ) (o : Option ℕ) → numbered 3 s ≡ o → AllDigits s → Then (Counted (a_number s)) (counted o sig f at)
   number_counted at s None e l = tt
   number_counted at s (Some n) e l = let (q, m) = (numbers 3 s n (omega arith) l).0 e in (n, m, ap a_number q, refl)
 
-  is_counted : (at : At) (k : Tok) → Lexed k → Then (Counted k) (wants_count k sig f at)
+  pub is_counted : (at : At) (k : Tok) → Lexed k → Then (Counted k) (wants_count k sig f at)
   is_counted at (a_name s) l = tt
   is_counted at (a_number s) l = number_counted at s (numbered 3 s) refl l
   is_counted at (an_instrument s) l = tt
@@ -54,7 +55,7 @@ module _ (sig : Sig) (f : ℕ) where
   is_counted at (a_stray b) l = tt
 
   -- a blank and the next count, or the end of the line behind the last
-  abbrev GoesOn : Tok → Head → Type 0
+  abbrev pub GoesOn : Tok → Head → Type 0
   GoesOn k g = ((k ≡ a_mark Blank) × (suc f < length sig) × (g ≡ (sig, WantsCount (suc f)))) ⊎ ((k ≡ a_mark LineEnd) × (length sig ≤ suc f) × (g ≡ (sig, Done)))
 
   mark_goes_on : (at : At) (m : Mark) → Then (GoesOn (a_mark m)) (has_count_mark m sig f at)
@@ -66,13 +67,13 @@ module _ (sig : Sig) (f : ℕ) where
   mark_goes_on at Blank = cond_both (ltb (suc f) (length sig)) _ _ (Then (GoesOn (a_mark Blank))) (λ e. inl (refl, ltb-true (suc f) (length sig) e, refl)) (λ _. tt)
   mark_goes_on at LineEnd = cond_both (ltb (suc f) (length sig)) _ _ (Then (GoesOn (a_mark LineEnd))) (λ _. tt) (λ e. inr (refl, ltb-false (suc f) (length sig) e, refl))
 
-  goes_on : (at : At) (k : Tok) → Then (GoesOn k) (has_count k sig f at)
-  goes_on at (a_name s) = tt
-  goes_on at (a_number s) = tt
-  goes_on at (an_instrument s) = tt
-  goes_on at (a_variable x) = tt
-  goes_on at (a_mark m) = mark_goes_on at m
-  goes_on at (a_stray b) = tt
+  pub count_goes_on : (at : At) (k : Tok) → Then (GoesOn k) (has_count k sig f at)
+  count_goes_on at (a_name s) = tt
+  count_goes_on at (a_number s) = tt
+  count_goes_on at (an_instrument s) = tt
+  count_goes_on at (a_variable x) = tt
+  count_goes_on at (a_mark m) = mark_goes_on at m
+  count_goes_on at (a_stray b) = tt
 
 -- nothing follows the last line
 ends : (sig : Sig) (at : At) (ks : List Tok) (all : Sig) → head_run (sig, Done) at ks ≡ Ok all → (ks ≡ []) × (sig ≡ all)
@@ -116,14 +117,14 @@ others : (rest front : Sig) (f : ℕ) (at : At) (ks : List Tok) (all : Sig) → 
 others [] front f at [] all e l q = not_both (sym q)
 others (o ∷ rest) front f at [] all e l q = not_both (sym q)
 others [] front f at (k ∷ ks) all e l q =
-    let (g, w, r) = then_on (GoesOn (front ++ []) f k) (head_step (front ++ [], HasCount f) at k) (λ g. head_run g (past at k) ks) all (goes_on (front ++ []) f at k) q in
+    let (g, w, r) = then_on (GoesOn (front ++ []) f k) (head_step (front ++ [], HasCount f) at k) (λ g. head_run g (past at k) ks) all (count_goes_on (front ++ []) f at k) q in
     ⊎_elim
     (λ h. absurd (omega (arith, h.1, length-append front [])))
     (λ h. let (p, s) = ends (front ++ []) (past at k) ks all (ap (λ x. head_run x (past at k) ks) (sym h.2) ∙ r) in
     record { done = []; joined = sym s; names = refl; ranked = tt; read = λ i. h.0 i ∷ p i }) w
 others (o ∷ rest) front f at (k ∷ ks) all e l q =
     let sig : Sig = front ++ (o ∷ rest) in
-    let (g, w, r) = then_on (GoesOn sig f k) (head_step (sig, HasCount f) at k) (λ g. head_run g (past at k) ks) all (goes_on sig f at k) q in
+    let (g, w, r) = then_on (GoesOn sig f k) (head_step (sig, HasCount f) at k) (λ g. head_run g (past at k) ks) all (count_goes_on sig f at k) q in
     ⊎_elim
     (λ h. let x = one front rest o (suc f) (past at k) ks all (sym e) l.1 (ap (λ x. head_run x (past at k) ks) (sym h.2) ∙ r) in
     let new : Op = record { name = o.name; arity = x.count } in

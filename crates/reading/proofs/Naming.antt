@@ -48,14 +48,14 @@ abbrev new : List ℕ → Op
 new s = record { name = s; arity = 0 }
 
 module _ (sig : Sig) where
-  abbrev Named : Tok → Head → Type 0
+  abbrev pub Named : Tok → Head → Type 0
   Named k g = (s : List ℕ) × (k ≡ a_name s) × (spelt s ≡ true) × (length sig < 32) × (found sig s ≡ None) × (g ≡ (sig ++ (new s ∷ []), HasName))
 
   once : (at : At) (s : List ℕ) (o : Option ℕ) → found sig s ≡ o → spelt s ≡ true → length sig < 32 → Then (Named (a_name s)) (named_once o sig s at)
   once at s (Some f) e l h = tt
   once at s None e l h = (s, refl, l, h, e, refl)
 
-  is_named : (at : At) (k : Tok) → Lexed k → Then (Named k) (wants_name k sig at)
+  pub is_named : (at : At) (k : Tok) → Lexed k → Then (Named k) (wants_name k sig at)
   is_named at (a_name s) l = cond_both (leb 32 (length sig)) _ _ (Then (Named (a_name s))) (λ _. tt) (λ e. once at s (found sig s) refl l (leb-false 32 (length sig) e))
   is_named at (a_number s) l = tt
   is_named at (an_instrument s) l = tt
@@ -64,7 +64,7 @@ module _ (sig : Sig) where
   is_named at (a_stray b) l = tt
 
   -- a blank and another name, or the end of the line
-  abbrev GoesOn : Tok → Head → Type 0
+  abbrev pub GoesOn : Tok → Head → Type 0
   GoesOn k g = ((k ≡ a_mark Blank) × (g ≡ (sig, WantsName))) ⊎ ((k ≡ a_mark LineEnd) × (g ≡ (sig, WantsCount 0)))
 
   mark_goes_on : (at : At) (m : Mark) → Then (GoesOn (a_mark m)) (has_name_mark m sig at)
@@ -76,13 +76,13 @@ module _ (sig : Sig) where
   mark_goes_on at Blank = inl (refl, refl)
   mark_goes_on at LineEnd = inr (refl, refl)
 
-  goes_on : (at : At) (k : Tok) → Then (GoesOn k) (has_name k sig at)
-  goes_on at (a_name s) = tt
-  goes_on at (a_number s) = tt
-  goes_on at (an_instrument s) = tt
-  goes_on at (a_variable x) = tt
-  goes_on at (a_mark m) = mark_goes_on at m
-  goes_on at (a_stray b) = tt
+  pub name_goes_on : (at : At) (k : Tok) → Then (GoesOn k) (has_name k sig at)
+  name_goes_on at (a_name s) = tt
+  name_goes_on at (a_number s) = tt
+  name_goes_on at (an_instrument s) = tt
+  name_goes_on at (a_variable x) = tt
+  name_goes_on at (a_mark m) = mark_goes_on at m
+  name_goes_on at (a_stray b) = tt
 
 -- behind a name of so many operators, the tokens are the further names and the line of all counts
 pub record Further (sig : Sig) (ks : List Tok) (all : Sig) : Type 0 where
@@ -122,7 +122,7 @@ mutual
   further : (ks : List Tok) (sig : Sig) (at : At) (all : Sig) → Declared sig → length sig ≤ 32 → 1 ≤ length sig → AllByRecursion Lexed ks → head_run (sig, HasName) at ks ≡ Ok all → Further sig ks all
   further [] sig at all good few some l q = not_both (sym q)
   further (k ∷ ks) sig at all good few some l q =
-      let (g, w, r) = then_on (GoesOn sig k) (head_step (sig, HasName) at k) (λ g. head_run g (past at k) ks) all (goes_on sig at k) q in
+      let (g, w, r) = then_on (GoesOn sig k) (head_step (sig, HasName) at k) (λ g. head_run g (past at k) ks) all (name_goes_on sig at k) q in
       ⊎_elim
       (λ h. next_name sig k ks all h.0 (first ks sig (past at k) all good few l.1 (ap (λ x. head_run x (past at k) ks) (sym h.1) ∙ r)))
       (λ h. last_name sig (past at k) k ks all good few some l.1 h.0 (ap (λ x. head_run x (past at k) ks) (sym h.1) ∙ r)) w

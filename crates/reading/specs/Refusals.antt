@@ -3,7 +3,7 @@ use Rattle.reading.specs.declared.token.At.{At}
 use Rattle.reading.specs.declared.fault.TextFault.{TextFault}
 use Rattle.reading.specs.declared.fault.TextFault.TheVariants.{Stray, BadNumber, Unexpected, Undeclared, WrongArity, PastLimit}
 use Rattle.reading.specs.declared.fault.SheetFault.{SheetFault}
-use Rattle.reading.specs.declared.fault.SheetFault.TheVariants.{Text as InText, Repeated}
+use Rattle.reading.specs.declared.fault.SheetFault.TheVariants.{Text as InText, Repeated, Headless, Doubled, Unbound}
 use Rattle.reading.specs.declared.refusal.Layer.{Layer}
 use Rattle.reading.specs.declared.refusal.Layer.TheVariants.{Text, Sheet, Pool, Book}
 use Rattle.reading.specs.declared.refusal.Refusal.{Refusal}
@@ -25,6 +25,9 @@ text_refusal (PastLimit at) = placed 6 Text at
 abbrev pub sheet_refusal : SheetFault → Refusal
 sheet_refusal (InText f) = text_refusal f
 sheet_refusal (Repeated at) = placed 7 Sheet at
+sheet_refusal (Headless at) = placed 8 Sheet at
+sheet_refusal (Doubled at) = placed 9 Sheet at
+sheet_refusal (Unbound at) = placed 10 Sheet at
 
 abbrev pub layer_text : Layer → List ℕ
 layer_text Text = codes "text"

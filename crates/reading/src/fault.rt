@@ -26,6 +26,12 @@ pub enum SheetFault {
     Text(TextFault),
     // a name that stands twice in the line of names
     Repeated(At),
+    // a left side that does not begin with a declared operator
+    Headless(At),
+    // a variable that stands twice in a left side
+    Doubled(At),
+    // a variable of a right side that does not stand in the left side
+    Unbound(At),
 }
 
 impl From<TextFault> for SheetFault {

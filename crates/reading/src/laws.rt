@@ -3,15 +3,11 @@ ghost use Rattle.reading.specs.Laws.{DecimalNumbers};
 ghost use Rattle.reading.specs.Cases.{Worked};
 
 // Digits are read as the number whose decimal they are.
-pub fn numbers_are_decimals() -> u8
+pub fn numbers_are_decimals()
     ensures { DecimalNumbers }
-{
-    0
-}
+{}
 
 // The worked cases hold.
-pub fn cases_hold() -> u8
+pub fn cases_hold()
     ensures { Worked }
-{
-    0
-}
+{}

@@ -16,3 +16,8 @@ pub struct At {
     pub place: usize,
     pub line: usize,
 }
+
+impl At {
+    // where a text begins
+    pub const ORIGIN: At = At { place: 0, line: 0 };
+}

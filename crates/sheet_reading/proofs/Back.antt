@@ -16,7 +16,7 @@ use Rattle.reading.proofs.Digits.{numbered_decimal}
 use Rattle.reading.proofs.Equal.{not_both, same_ok}
 use Rattle.reading.proofs.Lines.{follow, line, heading_tokens}
 use Rattle.reading.proofs.Running.{passed}
-use Rattle.sheet_reading.specs.declared.fault.SheetFault.{SheetFault}
+use Rattle.reading.specs.declared.fault.SheetFault.{SheetFault}
 use Rattle.sheet_reading.specs.Heading.{and_on}
 use Rattle.sheet_reading.specs.Values.{Value, Grid, range_of, ValueIn, LineIn, GridIn}
 use Rattle.sheet_reading.specs.Sheet.{Sheet, SheetShaped, Limits, SideWithin, SheetWithin}

@@ -9,8 +9,8 @@ use Rattle.reading.specs.Tokens.{Tok, a_name, a_number, an_instrument, a_variabl
 use Rattle.reading.specs.Numbers.{plain, instrument_number}
 use Rattle.reading.specs.Reading.{unless_some, fault_of}
 use Rattle.reading.specs.Laws.{Wrong}
-use Rattle.sheet_reading.specs.declared.fault.SheetFault.{SheetFault}
-use Rattle.sheet_reading.specs.declared.fault.SheetFault.TheVariants.{Text, Repeated, Headless, Doubled, Unbound}
+use Rattle.reading.specs.declared.fault.SheetFault.{SheetFault}
+use Rattle.reading.specs.declared.fault.SheetFault.TheVariants.{Text, Repeated, Headless, Doubled, Unbound}
 use Rattle.sheet_reading.specs.Laws.{Behind, symbol, WholeSheet, StuckAt, names_on, BeyondLimit, Miscounted, InLeft, NotInLeft, RefusedFor}
 use Rattle.sheet_reading.proofs.SideFacts.{OfLimit}
 

@@ -5,7 +5,7 @@ use Rattle.reading.specs.Tokens.{Tok, past}
 use Rattle.reading.specs.Laws.{Wrong, first_of}
 use Rattle.reading.proofs.Equal.{not_both, same_fault}
 use Rattle.reading.proofs.Running.{passed}
-use Rattle.sheet_reading.specs.declared.fault.SheetFault.{SheetFault}
+use Rattle.reading.specs.declared.fault.SheetFault.{SheetFault}
 use Rattle.sheet_reading.specs.Heading.{and_on}
 use Rattle.sheet_reading.specs.Sheet.{Sheet, Limits}
 use Rattle.sheet_reading.specs.Reading.{Stand, Move, sheet_step, sheet_end, sheet_run}

@@ -17,7 +17,7 @@ use Rattle.reading.proofs.Digits.{numbered_decimal}
 use Rattle.reading.proofs.Lexing.{closing}
 use Rattle.reading.proofs.Running.{passed}
 use Rattle.reading.proofs.Back.{join, join_then, then_join, name_step}
-use Rattle.sheet_reading.specs.declared.fault.SheetFault.{SheetFault}
+use Rattle.reading.specs.declared.fault.SheetFault.{SheetFault}
 use Rattle.sheet_reading.specs.Heading.{and_on}
 use Rattle.sheet_reading.specs.Sheet.{Limits, SideWithin}
 use Rattle.sheet_reading.specs.Sides.{Hand, on_left, on_right, symbols_before, depth, occurrences_before, room, within_room, in_text, fronted, variable_on, side_step}

@@ -5,7 +5,7 @@ use Rattle.terms.specs.Signature.{Sig}
 use Rattle.reading.specs.declared.token.At.{At}
 use Rattle.reading.specs.Tokens.{Tok, a_name, a_number, an_instrument, a_variable, a_mark, a_stray}
 use Rattle.reading.specs.Reading.{Context, State, wants, opens, has, on_wants}
-use Rattle.sheet_reading.specs.declared.fault.SheetFault.{SheetFault}
+use Rattle.reading.specs.declared.fault.SheetFault.{SheetFault}
 use Rattle.sheet_reading.specs.Heading.{and_on}
 use Rattle.sheet_reading.specs.Sheet.{Limits}
 use Rattle.sheet_reading.specs.Sides.{Hand, symbols_before, depth, room, within_room, in_text, fronted, side_step}

@@ -8,7 +8,7 @@ use Rattle.reading.specs.Tokens.{Tok, tokens, origin}
 use Rattle.reading.specs.Laws.{Wrong}
 use Rattle.reading.proofs.Equal.{not_both, same_ok}
 use Rattle.reading.proofs.Running.{passed}
-use Rattle.sheet_reading.specs.declared.fault.SheetFault.{SheetFault}
+use Rattle.reading.specs.declared.fault.SheetFault.{SheetFault}
 use Rattle.sheet_reading.specs.Sheet.{Sheet, SheetShaped, Limits, limits, SheetWithin, sheet_text}
 use Rattle.sheet_reading.specs.Reading.{Stand, in_heading, sheet_step, sheet_end}
 use Rattle.sheet_reading.specs.Laws.{StuckAt}

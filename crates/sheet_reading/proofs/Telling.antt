@@ -11,7 +11,7 @@ use Rattle.reading.specs.Laws.{Wrong}
 use Rattle.reading.proofs.Equal.{no_some, not_both, same_ok, same_fault}
 use Rattle.reading.proofs.Lines.{heading_tokens}
 use Rattle.reading.proofs.Running.{passed}
-use Rattle.sheet_reading.specs.declared.fault.SheetFault.{SheetFault}
+use Rattle.reading.specs.declared.fault.SheetFault.{SheetFault}
 use Rattle.sheet_reading.specs.Heading.{Outcome, head_step, and_on}
 use Rattle.sheet_reading.specs.Sheet.{limits}
 use Rattle.sheet_reading.specs.Sides.{on_left, on_right}

@@ -12,7 +12,7 @@ use Rattle.reading.specs.Numbers.{numbered}
 use Rattle.reading.specs.Laws.{AllDigits}
 use Rattle.reading.proofs.Digits.{numbers}
 use Rattle.reading.proofs.Lines.{heading_tokens}
-use Rattle.sheet_reading.specs.declared.fault.SheetFault.{SheetFault}
+use Rattle.reading.specs.declared.fault.SheetFault.{SheetFault}
 use Rattle.sheet_reading.specs.Heading.{and_on}
 use Rattle.sheet_reading.specs.Values.{Value, Grid, range_of, ValueIn, LineIn}
 use Rattle.sheet_reading.specs.Sheet.{limits}

@@ -7,8 +7,8 @@ use Rattle.reading.specs.declared.fault.TextFault.TheVariants.{Stray, BadNumber,
 use Rattle.reading.specs.Tokens.{origin}
 use Rattle.reading.specs.Cases.{sample}
 use Rattle.reading.specs.Heading.{sheet_limit}
-use Rattle.sheet_reading.specs.declared.fault.SheetFault.{SheetFault}
-use Rattle.sheet_reading.specs.declared.fault.SheetFault.TheVariants.{Text, Repeated, Headless, Doubled, Unbound}
+use Rattle.reading.specs.declared.fault.SheetFault.{SheetFault}
+use Rattle.reading.specs.declared.fault.SheetFault.TheVariants.{Text, Repeated, Headless, Doubled, Unbound}
 use Rattle.sheet_reading.specs.Heading.{line_of}
 use Rattle.sheet_reading.specs.Values.{Grid}
 use Rattle.sheet_reading.specs.Sheet.{Sheet}

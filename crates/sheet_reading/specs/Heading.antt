@@ -10,8 +10,8 @@ use Rattle.reading.specs.Tokens.{Tok, a_name, a_number, an_instrument, a_variabl
 use Rattle.reading.specs.Numbers.{numbered}
 use Rattle.reading.specs.Reading.{fault_of}
 use Rattle.reading.specs.Heading.{Head}
-use Rattle.sheet_reading.specs.declared.fault.SheetFault.{SheetFault}
-use Rattle.sheet_reading.specs.declared.fault.SheetFault.TheVariants.{Text, Repeated}
+use Rattle.reading.specs.declared.fault.SheetFault.{SheetFault}
+use Rattle.reading.specs.declared.fault.SheetFault.TheVariants.{Text, Repeated}
 
 abbrev pub Outcome : Type 0
 Outcome = Result Head SheetFault

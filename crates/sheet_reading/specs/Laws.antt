@@ -13,8 +13,8 @@ use Rattle.reading.specs.declared.fault.TextFault.TheVariants.{Stray, BadNumber,
 use Rattle.reading.specs.Tokens.{Tok, a_name, a_number, an_instrument, a_variable, a_mark, a_stray, tokens, whole, lines, origin}
 use Rattle.reading.specs.Heading.{sheet_limit}
 use Rattle.reading.specs.Laws.{Wrong, first_of, ShowsCount, arguments_so_far}
-use Rattle.sheet_reading.specs.declared.fault.SheetFault.{SheetFault}
-use Rattle.sheet_reading.specs.declared.fault.SheetFault.TheVariants.{Text, Repeated, Headless, Doubled, Unbound}
+use Rattle.reading.specs.declared.fault.SheetFault.{SheetFault}
+use Rattle.reading.specs.declared.fault.SheetFault.TheVariants.{Text, Repeated, Headless, Doubled, Unbound}
 use Rattle.sheet_reading.specs.Sheet.{Sheet, SheetShaped, limits, SheetWithin, sheet_text}
 use Rattle.sheet_reading.specs.Reading.{is_mark, read_sheet}
 

@@ -1,5 +1,4 @@
 pub mod Heading
-pub mod Refusals
 pub mod Values
 pub mod Sheet
 pub mod Sides

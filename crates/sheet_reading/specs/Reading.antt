@@ -13,8 +13,8 @@ use Rattle.reading.specs.Tokens.{Tok, a_name, a_number, an_instrument, a_variabl
 use Rattle.reading.specs.Numbers.{numbered}
 use Rattle.reading.specs.Reading.{top, within, State, wants, opens, has}
 use Rattle.reading.specs.Heading.{Head, sheet_limit}
-use Rattle.sheet_reading.specs.declared.fault.SheetFault.{SheetFault}
-use Rattle.sheet_reading.specs.declared.fault.SheetFault.TheVariants.{Text}
+use Rattle.reading.specs.declared.fault.SheetFault.{SheetFault}
+use Rattle.reading.specs.declared.fault.SheetFault.TheVariants.{Text}
 use Rattle.sheet_reading.specs.Heading.{head_step, and_on, not_here}
 use Rattle.sheet_reading.specs.Values.{Value, Grid, range_of}
 use Rattle.sheet_reading.specs.Sheet.{Sheet, Limits, limits}

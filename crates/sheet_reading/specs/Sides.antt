@@ -8,8 +8,8 @@ use Rattle.reading.specs.declared.fault.TextFault.{TextFault}
 use Rattle.reading.specs.declared.fault.TextFault.TheVariants.{PastLimit}
 use Rattle.reading.specs.Tokens.{Tok, a_name, a_number, an_instrument, a_variable, a_mark, a_stray}
 use Rattle.reading.specs.Reading.{Context, top, within, State, wants, opens, has, on_wants, on_opens, on_has}
-use Rattle.sheet_reading.specs.declared.fault.SheetFault.{SheetFault}
-use Rattle.sheet_reading.specs.declared.fault.SheetFault.TheVariants.{Text, Headless, Doubled, Unbound}
+use Rattle.reading.specs.declared.fault.SheetFault.{SheetFault}
+use Rattle.reading.specs.declared.fault.SheetFault.TheVariants.{Text, Headless, Doubled, Unbound}
 use Rattle.sheet_reading.specs.Heading.{and_on}
 use Rattle.sheet_reading.specs.Sheet.{Limits}
 

@@ -4,15 +4,11 @@ ghost use Rattle.sheet_reading.specs.Laws.{SheetLaw};
 ghost use Rattle.sheet_reading.specs.Cases.{Worked};
 
 // A sheet is read as it is written, and each refusal says what is wrong first.
-pub fn sheets_are_read_as_written() -> u8
+pub fn sheets_are_read_as_written()
     ensures { (b : List ℕ) → SheetLaw b }
-{
-    0
-}
+{}
 
 // The worked cases hold.
-pub fn sheet_cases_hold() -> u8
+pub fn sheet_cases_hold()
     ensures { Worked }
-{
-    0
-}
+{}

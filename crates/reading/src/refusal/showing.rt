@@ -6,12 +6,11 @@ use crate::fault::{SheetFault, TextFault};
 use crate::token::At;
 use std::fmt;
 
-impl TextFault {
-    // The four parts of the refusal.
-    pub fn refusal(&self) -> Refusal
-        ensures { result ≡ text_refusal self.now }
-    {
-        match *self {
+impl From<TextFault> for Refusal {
+    ghost from_gives = { λ f r. r ≡ text_refusal f };
+
+    fn from(fault: TextFault) -> Refusal {
+        match fault {
             TextFault::Stray(at) => placed(1, Layer::Text, at),
             TextFault::BadNumber(at) => placed(2, Layer::Text, at),
             TextFault::Unexpected(at) => placed(3, Layer::Text, at),
@@ -22,14 +21,17 @@ impl TextFault {
     }
 }
 
-impl SheetFault {
-    // The four parts of the refusal; a fault of the text is passed on unaltered.
-    pub fn refusal(&self) -> Refusal
-        ensures { result ≡ sheet_refusal self.now }
-    {
-        match *self {
-            SheetFault::Text(fault) => fault.refusal(),
+// A fault of the text is passed on unaltered.
+impl From<SheetFault> for Refusal {
+    ghost from_gives = { λ f r. r ≡ sheet_refusal f };
+
+    fn from(fault: SheetFault) -> Refusal {
+        match fault {
+            SheetFault::Text(inner) => Refusal::from(inner),
             SheetFault::Repeated(at) => placed(7, Layer::Sheet, at),
+            SheetFault::Headless(at) => placed(8, Layer::Sheet, at),
+            SheetFault::Doubled(at) => placed(9, Layer::Sheet, at),
+            SheetFault::Unbound(at) => placed(10, Layer::Sheet, at),
         }
     }
 }
@@ -45,17 +47,16 @@ fn placed(number: u8, layer: Layer, at: At) -> Refusal
     }
 }
 
-impl Layer {
-    // The layer's name in a printed refusal.
-    pub fn name(self) -> &'static str
-        ensures { result.now ≡ layer_text self }
-    {
-        match self {
+impl fmt::Display for Layer {
+    ghost output = { λ l. Some (layer_text l) };
+
+    fn fmt<W: fmt::Write>(&self, f: &mut fmt::Formatter<W>) -> fmt::Result {
+        f.write_str(match self {
             Layer::Text => "text",
             Layer::Sheet => "sheet",
             Layer::Pool => "pool",
             Layer::Book => "book",
-        }
+        })
     }
 }
 
@@ -63,10 +64,12 @@ impl fmt::Display for Refusal {
     ghost output = { λ r. Some (refusal_text r) };
 
     fn fmt<W: fmt::Write>(&self, f: &mut fmt::Formatter<W>) -> fmt::Result {
-        let number = self.number;
-        let layer = self.layer.name();
-        let place = self.place;
-        let second = self.second;
+        let Refusal {
+            number,
+            layer,
+            place,
+            second,
+        } = *self;
         write!(f, "refused {number} {layer} {place} {second}")
     }
 }
