@@ -11,7 +11,8 @@ use Rattle.reading.specs.declared.heading.Stage.TheVariants.{WantsCount, HasCoun
 use Rattle.reading.specs.declared.fault.SheetFault.{SheetFault}
 use Rattle.reading.specs.Tokens.{Tok, a_name, a_number, an_instrument, a_variable, a_mark, a_stray, past}
 use Rattle.reading.specs.Numbers.{numbered}
-use Rattle.reading.specs.Heading.{Head, Outcome, counted, wants_count, has_count_mark, has_count, head_step, and_on, head_run}
+use Rattle.reading.specs.Heading.{Head, Outcome, counted, wants_count, has_count_mark, has_count, head_step, head_run}
+use Rattle.reading.specs.Reading.{chain}
 use Rattle.reading.specs.HeadingLaw.{OfHeading}
 use Rattle.reading.specs.Laws.{AllDigits}
 use Rattle.reading.proofs.Equal.{not_both, same_ok}
@@ -24,7 +25,7 @@ abbrev pub Then : (Head → Type 0) → Outcome → Type 0
 Then P (Ok g) = P g
 Then P (Err e) = OfHeading e
 
-pub then_on : (P : Head → Type 0) (r : Outcome) (f : Head → Result Sig SheetFault) (sig : Sig) → Then P r → and_on r f ≡ Ok sig → (g : Head) × P g × (f g ≡ Ok sig)
+pub then_on : (P : Head → Type 0) (r : Outcome) (f : Head → Result Sig SheetFault) (sig : Sig) → Then P r → chain r f ≡ Ok sig → (g : Head) × P g × (f g ≡ Ok sig)
 then_on P (Ok g) f sig h e = (g, h, e)
 then_on P (Err x) f sig h e = not_both (sym e)
 
@@ -76,7 +77,7 @@ module _ (sig : Sig) (f : ℕ) where
   count_goes_on at (a_stray b) = tt
 
 -- nothing follows the last line
-ends : (sig : Sig) (at : At) (ks : List Tok) (all : Sig) → head_run (sig, Done) at ks ≡ Ok all → (ks ≡ []) × (sig ≡ all)
+ends : (sig : Sig) (at : At) (ks : List Tok) (all : Sig) → head_run 32 (sig, Done) at ks ≡ Ok all → (ks ≡ []) × (sig ≡ all)
 ends sig at [] all e = (refl, same_ok e)
 ends sig at (k ∷ ks) all e = not_both (sym e)
 
@@ -88,13 +89,13 @@ record One (front rest : Sig) (o : Op) (f : ℕ) (ks : List Tok) (all : Sig) : T
   at : At
   first : ks ≡ a_number (decimal count) ∷ more
   lexed : AllByRecursion Lexed more
-  then : head_run ((front ++ (record { name = o.name; arity = count } ∷ [])) ++ rest, HasCount f) at more ≡ Ok all
+  then : head_run 32 ((front ++ (record { name = o.name; arity = count } ∷ [])) ++ rest, HasCount f) at more ≡ Ok all
 
-one : (front rest : Sig) (o : Op) (f : ℕ) (at : At) (ks : List Tok) (all : Sig) → length front ≡ f → AllByRecursion Lexed ks → head_run (front ++ (o ∷ rest), WantsCount f) at ks ≡ Ok all → One front rest o f ks all
+one : (front rest : Sig) (o : Op) (f : ℕ) (at : At) (ks : List Tok) (all : Sig) → length front ≡ f → AllByRecursion Lexed ks → head_run 32 (front ++ (o ∷ rest), WantsCount f) at ks ≡ Ok all → One front rest o f ks all
 one front rest o f at [] all e l q = not_both (sym q)
 one front rest o f at (k ∷ ks) all e l q =
     let sig : Sig = front ++ (o ∷ rest) in
-    let (g, (n, m, p, z), r) = then_on (Counted sig f k) (head_step (sig, WantsCount f) at k) (λ g. head_run g (past at k) ks) all (is_counted sig f at k l.0) q in
+    let (g, (n, m, p, z), r) = then_on (Counted sig f k) (head_step 32 (sig, WantsCount f) at k) (λ g. head_run 32 g (past at k) ks) all (is_counted sig f at k l.0) q in
     record {
       count = n;
       small = m;
@@ -102,7 +103,7 @@ one front rest o f at (k ∷ ks) all e l q =
       at = past at k;
       first = ap (λ x. x ∷ ks) p;
       lexed = l.1;
-      then = ap (λ s. head_run (s, HasCount f) (past at k) ks) (sym (count_set front rest o f n e)) ∙ ap (λ h. head_run h (past at k) ks) (sym z) ∙ r;
+      then = ap (λ s. head_run 32 (s, HasCount f) (past at k) ks) (sym (count_set front rest o f n e)) ∙ ap (λ h. head_run 32 h (past at k) ks) (sym z) ∙ r;
     }
 
 -- the tokens behind a count are the other counts, and the end of the line
@@ -113,20 +114,20 @@ record Others (front rest : Sig) (ks : List Tok) (all : Sig) : Type 0 where
   ranked : AllByRecursion (λ (o : Op). o.arity ≤ 3) done
   read : ks ≡ follow (map count_tok done)
 
-others : (rest front : Sig) (f : ℕ) (at : At) (ks : List Tok) (all : Sig) → suc f ≡ length front → AllByRecursion Lexed ks → head_run (front ++ rest, HasCount f) at ks ≡ Ok all → Others front rest ks all
+others : (rest front : Sig) (f : ℕ) (at : At) (ks : List Tok) (all : Sig) → suc f ≡ length front → AllByRecursion Lexed ks → head_run 32 (front ++ rest, HasCount f) at ks ≡ Ok all → Others front rest ks all
 others [] front f at [] all e l q = not_both (sym q)
 others (o ∷ rest) front f at [] all e l q = not_both (sym q)
 others [] front f at (k ∷ ks) all e l q =
-    let (g, w, r) = then_on (GoesOn (front ++ []) f k) (head_step (front ++ [], HasCount f) at k) (λ g. head_run g (past at k) ks) all (count_goes_on (front ++ []) f at k) q in
+    let (g, w, r) = then_on (GoesOn (front ++ []) f k) (head_step 32 (front ++ [], HasCount f) at k) (λ g. head_run 32 g (past at k) ks) all (count_goes_on (front ++ []) f at k) q in
     ⊎_elim
     (λ h. absurd (omega (arith, h.1, length-append front [])))
-    (λ h. let (p, s) = ends (front ++ []) (past at k) ks all (ap (λ x. head_run x (past at k) ks) (sym h.2) ∙ r) in
+    (λ h. let (p, s) = ends (front ++ []) (past at k) ks all (ap (λ x. head_run 32 x (past at k) ks) (sym h.2) ∙ r) in
     record { done = []; joined = sym s; names = refl; ranked = tt; read = λ i. h.0 i ∷ p i }) w
 others (o ∷ rest) front f at (k ∷ ks) all e l q =
     let sig : Sig = front ++ (o ∷ rest) in
-    let (g, w, r) = then_on (GoesOn sig f k) (head_step (sig, HasCount f) at k) (λ g. head_run g (past at k) ks) all (count_goes_on sig f at k) q in
+    let (g, w, r) = then_on (GoesOn sig f k) (head_step 32 (sig, HasCount f) at k) (λ g. head_run 32 g (past at k) ks) all (count_goes_on sig f at k) q in
     ⊎_elim
-    (λ h. let x = one front rest o (suc f) (past at k) ks all (sym e) l.1 (ap (λ x. head_run x (past at k) ks) (sym h.2) ∙ r) in
+    (λ h. let x = one front rest o (suc f) (past at k) ks all (sym e) l.1 (ap (λ x. head_run 32 x (past at k) ks) (sym h.2) ∙ r) in
     let new : Op = record { name = o.name; arity = x.count } in
     let y = others rest (front ++ (new ∷ [])) (suc f) x.at x.more all (omega (arith, length-append front (new ∷ []))) x.lexed x.then in
     record {
@@ -144,7 +145,7 @@ pub record Counts (sig : Sig) (ks : List Tok) (all : Sig) : Type 0 where
   pub ranked : AllByRecursion (λ (o : Op). o.arity ≤ 3) all
   pub read : ks ≡ line (map count_tok all)
 
-pub counts : (sig : Sig) (at : At) (ks : List Tok) (all : Sig) → 1 ≤ length sig → AllByRecursion Lexed ks → head_run (sig, WantsCount 0) at ks ≡ Ok all → Counts sig ks all
+pub counts : (sig : Sig) (at : At) (ks : List Tok) (all : Sig) → 1 ≤ length sig → AllByRecursion Lexed ks → head_run 32 (sig, WantsCount 0) at ks ≡ Ok all → Counts sig ks all
 counts [] at ks all h l q = absurd (omega arith)
 counts (o ∷ rest) at ks all h l q =
     let x = one [] rest o 0 at ks all refl l q in
@@ -166,21 +167,21 @@ abbrev pub bare : Sig → Sig
 bare sig = map bare_op sig
 
 one_back : (front rest : Sig) (o : Op) (f : ℕ) (at : At) (ks : List Tok) → length front ≡ f → o.arity ≤ 3
-    → head_run (front ++ (bare_op o ∷ rest), WantsCount f) at (count_tok o ∷ ks) ≡ head_run ((front ++ (o ∷ [])) ++ rest, HasCount f) (past at (count_tok o)) ks
+    → head_run 32 (front ++ (bare_op o ∷ rest), WantsCount f) at (count_tok o ∷ ks) ≡ head_run 32 ((front ++ (o ∷ [])) ++ rest, HasCount f) (past at (count_tok o)) ks
 one_back front rest o f at ks e m =
-    ap (λ n. and_on (counted n (front ++ (bare_op o ∷ rest)) f at) (λ g. head_run g (past at (count_tok o)) ks)) (numbered_decimal 3 o.arity (omega arith) m)
-    ∙ ap (λ s. head_run (s, HasCount f) (past at (count_tok o)) ks) (count_set front rest (bare_op o) f o.arity e)
+    ap (λ n. chain (counted n (front ++ (bare_op o ∷ rest)) f at) (λ g. head_run 32 g (past at (count_tok o)) ks)) (numbered_decimal 3 o.arity (omega arith) m)
+    ∙ ap (λ s. head_run 32 (s, HasCount f) (past at (count_tok o)) ks) (count_set front rest (bare_op o) f o.arity e)
 
-others_back : (rest front : Sig) (f : ℕ) (at : At) → suc f ≡ length front → AllByRecursion (λ (o : Op). o.arity ≤ 3) rest → head_run (front ++ bare rest, HasCount f) at (follow (map count_tok rest)) ≡ Ok (front ++ rest)
+others_back : (rest front : Sig) (f : ℕ) (at : At) → suc f ≡ length front → AllByRecursion (λ (o : Op). o.arity ≤ 3) rest → head_run 32 (front ++ bare rest, HasCount f) at (follow (map count_tok rest)) ≡ Ok (front ++ rest)
 others_back [] front f at e h =
-    ap (λ (r : Outcome). and_on r (λ g. head_run g (past at (a_mark LineEnd)) [])) (cond-false _ _ _ (le-ltb (suc f) (length (front ++ [])) (omega (arith, length-append front []))))
+    ap (λ (r : Outcome). chain r (λ g. head_run 32 g (past at (a_mark LineEnd)) [])) (cond-false _ _ _ (le-ltb (suc f) (length (front ++ [])) (omega (arith, length-append front []))))
 others_back (o ∷ rest) front f at e h =
     let ks : List Tok = follow (map count_tok rest) in
-    ap (λ (r : Outcome). and_on r (λ g. head_run g (past at (a_mark Blank)) (count_tok o ∷ ks))) (cond-true _ _ _ (lt-ltb (suc f) (length (front ++ bare (o ∷ rest))) (omega (arith, length-append front (bare (o ∷ rest))))))
+    ap (λ (r : Outcome). chain r (λ g. head_run 32 g (past at (a_mark Blank)) (count_tok o ∷ ks))) (cond-true _ _ _ (lt-ltb (suc f) (length (front ++ bare (o ∷ rest))) (omega (arith, length-append front (bare (o ∷ rest))))))
     ∙ one_back front (bare rest) o (suc f) (past at (a_mark Blank)) ks (sym e) h.0
     ∙ others_back rest (front ++ (o ∷ [])) (suc f) _ (omega (arith, length-append front (o ∷ []))) h.1
     ∙ ap Ok (append_assoc front (o ∷ []) rest)
 
-pub counts_back : (sig : Sig) (at : At) → 1 ≤ length sig → AllByRecursion (λ (o : Op). o.arity ≤ 3) sig → head_run (bare sig, WantsCount 0) at (line (map count_tok sig)) ≡ Ok sig
+pub counts_back : (sig : Sig) (at : At) → 1 ≤ length sig → AllByRecursion (λ (o : Op). o.arity ≤ 3) sig → head_run 32 (bare sig, WantsCount 0) at (line (map count_tok sig)) ≡ Ok sig
 counts_back [] at h r = absurd (omega arith)
 counts_back (o ∷ rest) at h r = one_back [] (bare rest) o 0 at (follow (map count_tok rest)) refl r.0 ∙ others_back rest (o ∷ []) 0 _ refl r.1

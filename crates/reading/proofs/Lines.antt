@@ -37,7 +37,7 @@ whole_append : (ks ls : List Tok) → whole (ks ++ ls) ≡ whole ks ++ whole ls
 whole_append [] ls = refl
 whole_append (k ∷ ks) ls = ap (λ l. token_bytes k ++ l) (whole_append ks ls) ∙ sym (append_assoc (token_bytes k) (whole ks) (whole ls))
 
-whole_line : (k : Op → Tok) (sig : Sig) → whole (line (map k sig)) ≡ line_of (λ o. token_bytes (k o)) sig
+whole_line : (k : Op → Tok) (sig : Sig) → whole (line (map k sig)) ≡ line_of (λ (o : Op). token_bytes (k o)) sig
 whole_line k [] = refl
 whole_line k (o ∷ []) = refl
 whole_line k (o ∷ p ∷ os) = ap (λ l. token_bytes (k o) ++ (32 ∷ l)) (whole_line k (p ∷ os))

@@ -12,7 +12,8 @@ use Rattle.reading.specs.declared.token.Mark.{Mark}
 use Rattle.reading.specs.declared.token.Mark.TheVariants.{Opening, Closing, Comma, Equals, Dash, Blank, LineEnd}
 use Rattle.reading.specs.declared.heading.Stage.TheVariants.{WantsName, HasName, WantsCount}
 use Rattle.reading.specs.Tokens.{Tok, a_name, a_number, an_instrument, a_variable, a_mark, a_stray, past}
-use Rattle.reading.specs.Heading.{Head, Outcome, named_once, wants_name, has_name_mark, has_name, head_step, and_on, head_run}
+use Rattle.reading.specs.Heading.{Head, Outcome, named_once, wants_name, has_name_mark, has_name, head_step, head_run}
+use Rattle.reading.specs.Reading.{chain}
 use Rattle.reading.proofs.Equal.{not_both}
 use Rattle.reading.proofs.Names.{found_is}
 use Rattle.reading.proofs.Tokens.{Lexed}
@@ -55,7 +56,7 @@ module _ (sig : Sig) where
   once at s (Some f) e l h = tt
   once at s None e l h = (s, refl, l, h, e, refl)
 
-  pub is_named : (at : At) (k : Tok) → Lexed k → Then (Named k) (wants_name k sig at)
+  pub is_named : (at : At) (k : Tok) → Lexed k → Then (Named k) (wants_name 32 k sig at)
   is_named at (a_name s) l = cond_both (leb 32 (length sig)) _ _ (Then (Named (a_name s))) (λ _. tt) (λ e. once at s (found sig s) refl l (leb-false 32 (length sig) e))
   is_named at (a_number s) l = tt
   is_named at (an_instrument s) l = tt
@@ -97,7 +98,7 @@ abbrev First : Sig → List Tok → Sig → Type 0
 First sig ks all = (s : List ℕ) × (js : List Tok) × (ks ≡ a_name s ∷ js) × Further (sig ++ (new s ∷ [])) js all
 
 -- the line ends
-last_name : (sig : Sig) (at : At) (k : Tok) (ks : List Tok) (all : Sig) → Declared sig → length sig ≤ 32 → 1 ≤ length sig → AllByRecursion Lexed ks → k ≡ a_mark LineEnd → head_run (sig, WantsCount 0) at ks ≡ Ok all → Further sig (k ∷ ks) all
+last_name : (sig : Sig) (at : At) (k : Tok) (ks : List Tok) (all : Sig) → Declared sig → length sig ≤ 32 → 1 ≤ length sig → AllByRecursion Lexed ks → k ≡ a_mark LineEnd → head_run 32 (sig, WantsCount 0) at ks ≡ Ok all → Further sig (k ∷ ks) all
 last_name sig at k ks all good few some l e q =
     let c = counts sig at ks all some l q in
     record {
@@ -119,28 +120,28 @@ next_name sig k ks all e (s, js, p, z) = record {
 }
 
 mutual
-  further : (ks : List Tok) (sig : Sig) (at : At) (all : Sig) → Declared sig → length sig ≤ 32 → 1 ≤ length sig → AllByRecursion Lexed ks → head_run (sig, HasName) at ks ≡ Ok all → Further sig ks all
+  further : (ks : List Tok) (sig : Sig) (at : At) (all : Sig) → Declared sig → length sig ≤ 32 → 1 ≤ length sig → AllByRecursion Lexed ks → head_run 32 (sig, HasName) at ks ≡ Ok all → Further sig ks all
   further [] sig at all good few some l q = not_both (sym q)
   further (k ∷ ks) sig at all good few some l q =
-      let (g, w, r) = then_on (GoesOn sig k) (head_step (sig, HasName) at k) (λ g. head_run g (past at k) ks) all (name_goes_on sig at k) q in
+      let (g, w, r) = then_on (GoesOn sig k) (head_step 32 (sig, HasName) at k) (λ g. head_run 32 g (past at k) ks) all (name_goes_on sig at k) q in
       ⊎_elim
-      (λ h. next_name sig k ks all h.0 (first ks sig (past at k) all good few l.1 (ap (λ x. head_run x (past at k) ks) (sym h.1) ∙ r)))
-      (λ h. last_name sig (past at k) k ks all good few some l.1 h.0 (ap (λ x. head_run x (past at k) ks) (sym h.1) ∙ r)) w
+      (λ h. next_name sig k ks all h.0 (first ks sig (past at k) all good few l.1 (ap (λ x. head_run 32 x (past at k) ks) (sym h.1) ∙ r)))
+      (λ h. last_name sig (past at k) k ks all good few some l.1 h.0 (ap (λ x. head_run 32 x (past at k) ks) (sym h.1) ∙ r)) w
 
-  pub first : (ks : List Tok) (sig : Sig) (at : At) (all : Sig) → Declared sig → length sig ≤ 32 → AllByRecursion Lexed ks → head_run (sig, WantsName) at ks ≡ Ok all → First sig ks all
+  pub first : (ks : List Tok) (sig : Sig) (at : At) (all : Sig) → Declared sig → length sig ≤ 32 → AllByRecursion Lexed ks → head_run 32 (sig, WantsName) at ks ≡ Ok all → First sig ks all
   first [] sig at all good few l q = not_both (sym q)
   first (k ∷ ks) sig at all good few l q =
-      let (g, (s, p, e, h, u, z), r) = then_on (Named sig k) (head_step (sig, WantsName) at k) (λ g. head_run g (past at k) ks) all (is_named sig at k l.0) q in
+      let (g, (s, p, e, h, u, z), r) = then_on (Named sig k) (head_step 32 (sig, WantsName) at k) (λ g. head_run 32 g (past at k) ks) all (is_named sig at k l.0) q in
       let many = length_push sig (new s) in
       let more : Declared (sig ++ (new s ∷ [])) = record { are_spelt = spelt_push sig s 0 good.are_spelt e; are_apart = apart_push sig s 0 good.are_apart u; are_ranked = ranked_push sig s 0 good.are_ranked (omega arith) } in
-      (s, ks, ap (λ x. x ∷ ks) p, further ks (sig ++ (new s ∷ [])) (past at k) all more (omega arith) (omega arith) l.1 (ap (λ x. head_run x (past at k) ks) (sym z) ∙ r))
+      (s, ks, ap (λ x. x ∷ ks) p, further ks (sig ++ (new s ∷ [])) (past at k) all more (omega arith) (omega arith) l.1 (ap (λ x. head_run 32 x (past at k) ks) (sym z) ∙ r))
 
 name_toks : (sig : Sig) → map name_tok sig ≡ map a_name (names sig)
 name_toks [] = refl
 name_toks (o ∷ os) = ap (λ l. name_tok o ∷ l) (name_toks os)
 
 -- an accepted heading has the tokens of the signature that is read
-pub heading_told : (ks : List Tok) (at : At) (all : Sig) → AllByRecursion Lexed ks → head_run ([], WantsName) at ks ≡ Ok all → Declared all × (1 ≤ length all) × (length all ≤ 32) × (ks ≡ heading_tokens all)
+pub heading_told : (ks : List Tok) (at : At) (all : Sig) → AllByRecursion Lexed ks → head_run 32 ([], WantsName) at ks ≡ Ok all → Declared all × (1 ≤ length all) × (length all ≤ 32) × (ks ≡ heading_tokens all)
 heading_told ks at all l q =
     let none : Declared [] = record { are_spelt = λ f h. absurd (omega arith); are_apart = λ f g h. absurd (omega (arith, h.0)); are_ranked = λ f h. absurd (omega arith) } in
     let (s, js, p, z) = first ks [] at all none (omega arith) l q in
@@ -168,21 +169,21 @@ unfound front rest o (Some f) a e =
     absurd (omega (arith, a f (length front) (omega arith, omega arith, same)))
 
 module _ {sig : Sig} (good : Declared sig) (few : length sig ≤ 32) where
-  name_back : (front rest : Sig) (o : Op) (at : At) (ks : List Tok) → front ++ (o ∷ rest) ≡ sig → head_run (bare front, WantsName) at (name_tok o ∷ ks) ≡ head_run (bare (front ++ (o ∷ [])), HasName) (past at (name_tok o)) ks
+  name_back : (front rest : Sig) (o : Op) (at : At) (ks : List Tok) → front ++ (o ∷ rest) ≡ sig → head_run 32 (bare front, WantsName) at (name_tok o ∷ ks) ≡ head_run 32 (bare (front ++ (o ∷ [])), HasName) (past at (name_tok o)) ks
   name_back front rest o at ks e =
-      let on : Outcome → _ = λ r. and_on r (λ g. head_run g (past at (name_tok o)) ks) in
+      let on : Outcome → _ = λ r. chain r (λ g. head_run 32 g (past at (name_tok o)) ks) in
       let room : length (bare front) < 32 = omega (arith, ap length e, length-append front (o ∷ rest), length-map front bare_op) in
       let fresh : found (bare front) o.name ≡ None = bare_found 0 front o.name ∙ unfound front rest o (found front o.name) (subst Apart (sym e) good.are_apart) refl in
       ap on (cond-false _ _ _ (lt-leb 32 (length (bare front)) room) ∙ ap (λ r. named_once r (bare front) o.name at) fresh)
-      ∙ ap (λ s. head_run (s, HasName) (past at (name_tok o)) ks) (sym (map_push bare_op front o))
+      ∙ ap (λ s. head_run 32 (s, HasName) (past at (name_tok o)) ks) (sym (map_push bare_op front o))
 
-  names_back : (ks : List Tok) → ((at : At) → head_run (bare sig, WantsCount 0) at ks ≡ Ok sig) → (rest front : Sig) (at : At) → front ++ rest ≡ sig → head_run (bare front, HasName) at (follow (map name_tok rest) ++ ks) ≡ Ok sig
-  names_back ks next [] front at e = ap (λ s. head_run (bare s, WantsCount 0) (past at (a_mark LineEnd)) ks) (sym (append-nil front) ∙ e) ∙ next (past at (a_mark LineEnd))
+  names_back : (ks : List Tok) → ((at : At) → head_run 32 (bare sig, WantsCount 0) at ks ≡ Ok sig) → (rest front : Sig) (at : At) → front ++ rest ≡ sig → head_run 32 (bare front, HasName) at (follow (map name_tok rest) ++ ks) ≡ Ok sig
+  names_back ks next [] front at e = ap (λ s. head_run 32 (bare s, WantsCount 0) (past at (a_mark LineEnd)) ks) (sym (append-nil front) ∙ e) ∙ next (past at (a_mark LineEnd))
   names_back ks next (o ∷ rest) front at e =
       name_back front rest o (past at (a_mark Blank)) (follow (map name_tok rest) ++ ks) e
       ∙ names_back ks next rest (front ++ (o ∷ [])) _ (append_assoc front (o ∷ []) rest ∙ e)
 
-pub heading_back : (sig : Sig) (at : At) → Declared sig → 1 ≤ length sig → length sig ≤ 32 → head_run ([], WantsName) at (heading_tokens sig) ≡ Ok sig
+pub heading_back : (sig : Sig) (at : At) → Declared sig → 1 ≤ length sig → length sig ≤ 32 → head_run 32 ([], WantsName) at (heading_tokens sig) ≡ Ok sig
 heading_back [] at good some few = absurd (omega arith)
 heading_back (o ∷ rest) at good some few =
     let ks : List Tok = line (map count_tok (o ∷ rest)) in

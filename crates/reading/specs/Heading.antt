@@ -1,6 +1,6 @@
--- How the two lines that head a sheet are read: its names, and its argument counts.
+-- How the two lines that head a sheet are read: its names, and its argument counts; and their text.
 use Rattle.std.specs.Prelude.{ℕ, suc, cond, List, [], ◌∷◌, ◌++◌, length, Some, None, Ok, Err, decimal, Option, Result, nat_le, nat_lt, slice_set}
-use Rattle.terms.specs.Signature.{Op, Sig, op_of, found}
+use Rattle.terms.specs.Signature.{Sig, op_of, found}
 use Rattle.reading.specs.declared.token.At.{At}
 use Rattle.reading.specs.declared.token.Mark.{Mark}
 use Rattle.reading.specs.declared.token.Mark.TheVariants.{Opening, Closing, Comma, Equals, Dash, Blank, LineEnd}
@@ -9,9 +9,9 @@ use Rattle.reading.specs.declared.heading.Stage.TheVariants.{WantsName, HasName,
 use Rattle.reading.specs.declared.fault.TextFault.TheVariants.{BadNumber, Unexpected, PastLimit}
 use Rattle.reading.specs.declared.fault.SheetFault.{SheetFault}
 use Rattle.reading.specs.declared.fault.SheetFault.TheVariants.{Text, Repeated}
-use Rattle.reading.specs.Tokens.{Tok, a_name, a_number, an_instrument, a_variable, a_mark, a_stray, tokens, origin, past}
+use Rattle.reading.specs.Tokens.{Tok, a_name, a_number, an_instrument, a_variable, a_mark, a_stray, tokens, origin}
 use Rattle.reading.specs.Numbers.{numbered}
-use Rattle.reading.specs.Reading.{fault_of}
+use Rattle.reading.specs.Reading.{fault_of, run_with}
 
 -- the operators so far, and what may come
 abbrev pub Head : Type 0
@@ -24,18 +24,18 @@ Outcome = Result Head SheetFault
 abbrev pub not_here : {A : Type 0} → Tok → At → Result A SheetFault
 not_here tok at = Err (Text (fault_of tok at (Unexpected at)))
 
--- a name: the 33rd is past the limit, whether it stands twice or not
+-- a name: one past the limit is refused for that, whether it stands twice or not
 abbrev pub named_once : Option ℕ → Sig → List ℕ → At → Outcome
 named_once (Some f) sig s at = Err (Repeated at)
 named_once None sig s at = Ok (sig ++ record { name = s; arity = 0 } ∷ [], HasName)
 
-abbrev pub wants_name : Tok → Sig → At → Outcome
-wants_name (a_name s) sig at = cond (nat_le 32 (length sig)) (Err (Text (PastLimit at))) (named_once (found sig s) sig s at)
-wants_name (a_number s) sig at = not_here (a_number s) at
-wants_name (an_instrument s) sig at = not_here (an_instrument s) at
-wants_name (a_variable x) sig at = not_here (a_variable x) at
-wants_name (a_mark m) sig at = not_here (a_mark m) at
-wants_name (a_stray b) sig at = not_here (a_stray b) at
+abbrev pub wants_name : ℕ → Tok → Sig → At → Outcome
+wants_name most (a_name s) sig at = cond (nat_le most (length sig)) (Err (Text (PastLimit at))) (named_once (found sig s) sig s at)
+wants_name most (a_number s) sig at = not_here (a_number s) at
+wants_name most (an_instrument s) sig at = not_here (an_instrument s) at
+wants_name most (a_variable x) sig at = not_here (a_variable x) at
+wants_name most (a_mark m) sig at = not_here (a_mark m) at
+wants_name most (a_stray b) sig at = not_here (a_stray b) at
 
 abbrev pub has_name_mark : Mark → Sig → At → Outcome
 has_name_mark Opening sig at = not_here (a_mark Opening) at
@@ -84,13 +84,13 @@ has_count (a_variable x) sig f at = not_here (a_variable x) at
 has_count (a_mark m) sig f at = has_count_mark m sig f at
 has_count (a_stray b) sig f at = not_here (a_stray b) at
 
--- one token
-abbrev pub head_step : Head → At → Tok → Outcome
-head_step (sig, WantsName) at tok = wants_name tok sig at
-head_step (sig, HasName) at tok = has_name tok sig at
-head_step (sig, WantsCount f) at tok = wants_count tok sig f at
-head_step (sig, HasCount f) at tok = has_count tok sig f at
-head_step (sig, Done) at tok = not_here tok at
+-- one token, where so many operators may be declared
+abbrev pub head_step : ℕ → Head → At → Tok → Outcome
+head_step most (sig, WantsName) at tok = wants_name most tok sig at
+head_step most (sig, HasName) at tok = has_name tok sig at
+head_step most (sig, WantsCount f) at tok = wants_count tok sig f at
+head_step most (sig, HasCount f) at tok = has_count tok sig f at
+head_step most (sig, Done) at tok = not_here tok at
 
 -- the end of the text
 abbrev pub head_end : Head → At → Result Sig SheetFault
@@ -100,26 +100,22 @@ head_end (sig, WantsCount f) at = Err (Text (Unexpected at))
 head_end (sig, HasCount f) at = Err (Text (Unexpected at))
 head_end (sig, Done) at = Ok sig
 
-abbrev pub and_on : {A B : Type 0} → Result A SheetFault → (A → Result B SheetFault) → Result B SheetFault
-and_on (Ok s) f = f s
-and_on (Err e) f = Err e
-
-abbrev pub head_run : Head → At → List Tok → Result Sig SheetFault
-head_run h at [] = head_end h at
-head_run h at (k ∷ ks) = and_on (head_step h at k) (λ g. head_run g (past at k) ks)
+abbrev pub head_run : ℕ → Head → At → List Tok → Result Sig SheetFault
+head_run most = run_with (head_step most) head_end
 
 -- how many bytes a sheet may have
 unfoldable pub sheet_limit : ℕ
 sheet_limit = 32768
 
 unfoldable pub read_heading : List ℕ → Result Sig SheetFault
-read_heading b = cond (nat_le (length b) sheet_limit) (head_run ([], WantsName) origin (tokens b)) (Err (Text (PastLimit origin)))
+read_heading b = cond (nat_le (length b) sheet_limit) (head_run 32 ([], WantsName) origin (tokens b)) (Err (Text (PastLimit origin)))
 
--- the text of a heading: names with a blank between, and counts likewise, each line with its end
-abbrev pub line_of : (Op → List ℕ) → Sig → List ℕ
+-- a line: a blank between two parts, and the end of the line
+abbrev pub line_of : {A : Type 0} → (A → List ℕ) → List A → List ℕ
 line_of show [] = 10 ∷ []
-line_of show (o ∷ []) = show o ++ (10 ∷ [])
-line_of show (o ∷ p ∷ os) = show o ++ (32 ∷ line_of show (p ∷ os))
+line_of show (x ∷ []) = show x ++ (10 ∷ [])
+line_of show (x ∷ y ∷ xs) = show x ++ (32 ∷ line_of show (y ∷ xs))
 
+-- the text of a heading: the line of names and the line of counts
 abbrev pub heading_text : Sig → List ℕ
 heading_text sig = line_of (λ o. o.name) sig ++ line_of (λ o. decimal o.arity) sig

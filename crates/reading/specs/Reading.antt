@@ -127,14 +127,18 @@ ending (opens f a n k) at = Err (WrongArity a)
 ending (has t m top) at = Ok t
 ending (has t m (within f a ts n k)) at = Err (Unexpected at)
 
-abbrev pub chain : {A B : Type 0} → Result A TextFault → (A → Result B TextFault) → Result B TextFault
+-- what comes behind a success; a fault is passed on
+abbrev pub chain : {A B E : Type 0} → Result A E → (A → Result B E) → Result B E
 chain (Ok s) f = f s
 chain (Err e) f = Err e
 
--- all tokens from a state on, and the end
+-- all tokens from a state on, a step for each, and the end of the text
+abbrev pub run_with : {S A E : Type 0} → (S → At → Tok → Result S E) → (S → At → Result A E) → S → At → List Tok → Result A E
+run_with step end s at [] = end s at
+run_with step end s at (k ∷ ks) = chain (step s at k) (λ u. run_with step end u (past at k) ks)
+
 abbrev pub run : Sig → State → At → List Tok → Result Term TextFault
-run sig s at [] = ending s at
-run sig s at (k ∷ ks) = chain (step sig s at k) (λ s'. run sig s' (past at k) ks)
+run sig = run_with (step sig) ending
 
 -- how many bytes a ticket handed in may have
 unfoldable pub ticket_limit : ℕ

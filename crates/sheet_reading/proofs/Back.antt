@@ -11,13 +11,12 @@ use Rattle.reading.specs.declared.token.At.{At}
 use Rattle.reading.specs.declared.token.Mark.TheVariants.{Equals, Blank, LineEnd}
 use Rattle.reading.specs.declared.heading.Stage.TheVariants.{WantsName}
 use Rattle.reading.specs.Tokens.{Tok, a_mark, tokens, past}
-use Rattle.reading.specs.Reading.{top, within, State, wants, opens, has}
+use Rattle.reading.specs.Reading.{top, within, State, wants, opens, has, chain}
 use Rattle.reading.proofs.Digits.{numbered_decimal}
 use Rattle.reading.proofs.Equal.{not_both, same_ok}
 use Rattle.reading.proofs.Lines.{follow, line, heading_tokens}
 use Rattle.reading.proofs.Running.{passed}
 use Rattle.reading.specs.declared.fault.SheetFault.{SheetFault}
-use Rattle.sheet_reading.specs.Heading.{and_on}
 use Rattle.sheet_reading.specs.Values.{Value, Grid, range_of, ValueIn, LineIn, GridIn}
 use Rattle.sheet_reading.specs.Sheet.{Sheet, SheetShaped, Limits, SideWithin, SheetWithin}
 use Rattle.sheet_reading.specs.Sides.{Hand, on_left, on_right, side_step}
@@ -57,14 +56,14 @@ line_long n (o ∷ os) (v ∷ vs) h = ap suc (line_long n os vs h.1)
 module _ (m : Limits) where
   -- the step that a token is
   pub then_reach : (s : Stand) (at : At) (k : Tok) (ks : List Tok) (u : Stand) → sheet_step m s at k ≡ Ok u → reach m s at (k ∷ ks) ≡ reach m u (past at k) ks
-  then_reach s at k ks u e = ap (λ (r : Move). and_on r (λ v. reach m v (past at k) ks)) e
+  then_reach s at k ks u e = ap (λ (r : Move). chain r (λ v. reach m v (past at k) ks)) e
 
   module _ (sig : Sig) (grid : Grid) (more : length grid < 8) where
     one_back : (vs : List Value) (v : Value) (at : At) → ValueIn (range_of (length grid) (op_of sig (length vs)).arity) v → sheet_step m (wants_value sig grid vs) at (value_tok v) ≡ Ok (has_value sig grid (vs ++ (v ∷ [])))
     one_back vs v at i =
         cond-false (rules_may_come grid vs && is_word (codes "rules") (value_tok v)) _ _ (and_right (rules_may_come grid vs) _ (no_word (codes "rules") v))
         ∙ cond-true (ltb (length grid) 8) _ _ (lt-ltb (length grid) 8 more)
-        ∙ ap (λ (r : Result Value SheetFault). and_on r (λ w. Ok (has_value sig grid (vs ++ (w ∷ []))))) (value_back _ v at (range_small (length grid % 4) (op_of sig (length vs)).arity) i)
+        ∙ ap (λ (r : Result Value SheetFault). chain r (λ w. Ok (has_value sig grid (vs ++ (w ∷ []))))) (value_back _ v at (range_small (length grid % 4) (op_of sig (length vs)).arity) i)
 
     line_back : (rest vs : List Value) (v : Value) → LineIn (length grid) sig (vs ++ (v ∷ rest)) → Leads m (wants_value sig grid vs) (value_tok v ∷ follow (map value_tok rest)) (wants_value sig (grid ++ ((vs ++ (v ∷ rest)) ∷ [])) [])
     line_back [] vs v h at =
@@ -103,15 +102,15 @@ module _ (m : Limits) where
 
 module _ (m : Limits) (sig : Sig) (good : Declared sig) (grid : Grid) where
   side_on : (rules : List Rule) (d : Hand) (s : State) (at : At) (k : Tok) (u : State) → side_step m sig (length rules) d s at k ≡ Ok u → sheet_step m (in_rule sig grid rules d s) at k ≡ Ok (in_rule sig grid rules d u)
-  side_on rules d (wants c) at k u e = ap (λ (r : Result State SheetFault). and_on r (λ v. Ok (in_rule sig grid rules d v))) e
-  side_on rules d (opens f a n c) at k u e = ap (λ (r : Result State SheetFault). and_on r (λ v. Ok (in_rule sig grid rules d v))) e
+  side_on rules d (wants c) at k u e = ap (λ (r : Result State SheetFault). chain r (λ v. Ok (in_rule sig grid rules d v))) e
+  side_on rules d (opens f a n c) at k u e = ap (λ (r : Result State SheetFault). chain r (λ v. Ok (in_rule sig grid rules d v))) e
   side_on rules on_left (has t b top) at k u e = cond_both (is_mark Equals k) _ _ (λ r. r ≡ Ok (in_rule sig grid rules on_left u))
       (λ q. not_both (sym (ap (side_step m sig (length rules) on_left (has t b top) at) (sym (mark_is Equals k q)) ∙ e)))
-      (λ _. ap (λ (r : Result State SheetFault). and_on r (λ v. Ok (in_rule sig grid rules on_left v))) e)
+      (λ _. ap (λ (r : Result State SheetFault). chain r (λ v. Ok (in_rule sig grid rules on_left v))) e)
   side_on rules (on_right l) (has t b top) at k u e = cond_both (is_mark LineEnd k) _ _ (λ r. r ≡ Ok (in_rule sig grid rules (on_right l) u))
       (λ q. not_both (sym (ap (side_step m sig (length rules) (on_right l) (has t b top) at) (sym (mark_is LineEnd k q)) ∙ e)))
-      (λ _. ap (λ (r : Result State SheetFault). and_on r (λ v. Ok (in_rule sig grid rules (on_right l) v))) e)
-  side_on rules d (has t b (within f a ts n c)) at k u e = ap (λ (r : Result State SheetFault). and_on r (λ v. Ok (in_rule sig grid rules d v))) e
+      (λ _. ap (λ (r : Result State SheetFault). chain r (λ v. Ok (in_rule sig grid rules (on_right l) v))) e)
+  side_on rules d (has t b (within f a ts n c)) at k u e = ap (λ (r : Result State SheetFault). chain r (λ v. Ok (in_rule sig grid rules d v))) e
 
   sides_on : (rules : List Rule) (d : Hand) (ks : List Tok) (s : State) (at : At) (u : State) → side_reach m sig (length rules) d s at ks ≡ Ok u → reach m (in_rule sig grid rules d s) at ks ≡ Ok (in_rule sig grid rules d u)
   sides_on rules d [] s at u e = ap (λ x. Ok (in_rule sig grid rules d x)) (same_ok e)

@@ -6,29 +6,29 @@ use Rattle.reading.specs.Laws.{Wrong, first_of}
 use Rattle.reading.proofs.Equal.{not_both, same_fault}
 use Rattle.reading.proofs.Running.{passed}
 use Rattle.reading.specs.declared.fault.SheetFault.{SheetFault}
-use Rattle.sheet_reading.specs.Heading.{and_on}
+use Rattle.reading.specs.Reading.{chain}
 use Rattle.sheet_reading.specs.Sheet.{Sheet, Limits}
 use Rattle.sheet_reading.specs.Reading.{Stand, Move, sheet_step, sheet_end, sheet_run}
 
 -- the stand behind some tokens
 abbrev pub reach : Limits → Stand → At → List Tok → Move
 reach m s at [] = Ok s
-reach m s at (k ∷ ks) = and_on (sheet_step m s at k) (λ u. reach m u (past at k) ks)
+reach m s at (k ∷ ks) = chain (sheet_step m s at k) (λ u. reach m u (past at k) ks)
 
-pub on_ok : {A B : Type 0} (r : Result A SheetFault) (f : A → Result B SheetFault) (b : B) → and_on r f ≡ Ok b → (a : A) × (r ≡ Ok a) × (f a ≡ Ok b)
+pub on_ok : {A B : Type 0} (r : Result A SheetFault) (f : A → Result B SheetFault) (b : B) → chain r f ≡ Ok b → (a : A) × (r ≡ Ok a) × (f a ≡ Ok b)
 on_ok (Ok a) f b e = (a, refl, e)
 on_ok (Err g) f b e = not_both (sym e)
 
 module _ (m : Limits) where
-  reach_append : (s : Stand) (at : At) (ks ls : List Tok) → reach m s at (ks ++ ls) ≡ and_on (reach m s at ks) (λ u. reach m u (passed at ks) ls)
+  reach_append : (s : Stand) (at : At) (ks ls : List Tok) → reach m s at (ks ++ ls) ≡ chain (reach m s at ks) (λ u. reach m u (passed at ks) ls)
   reach_append s at [] ls = refl
   reach_append s at (k ∷ ks) ls =
-      elim (sheet_step m s at k) as (λ r. and_on r (λ u. reach m u (past at k) (ks ++ ls)) ≡ and_on (and_on r (λ u. reach m u (past at k) ks)) (λ u. reach m u (passed at (k ∷ ks)) ls))
+      elim (sheet_step m s at k) as (λ r. chain r (λ u. reach m u (past at k) (ks ++ ls)) ≡ chain (chain r (λ u. reach m u (past at k) ks)) (λ u. reach m u (passed at (k ∷ ks)) ls))
       [ Ok u ↦ reach_append u (past at k) ks ls | Err g ↦ refl ]
 
   -- behind the first tokens, and from there behind the others
   pub reach_join : (s : Stand) (at : At) (ks ls : List Tok) (v u : Stand) → reach m s at ks ≡ Ok v → reach m v (passed at ks) ls ≡ Ok u → reach m s at (ks ++ ls) ≡ Ok u
-  reach_join s at ks ls v u e q = reach_append s at ks ls ∙ ap (λ (r : Move). and_on r (λ w. reach m w (passed at ks) ls)) e ∙ q
+  reach_join s at ks ls v u e q = reach_append s at ks ls ∙ ap (λ (r : Move). chain r (λ w. reach m w (passed at ks) ls)) e ∙ q
 
   pub reach_split : (s : Stand) (at : At) (ks ls : List Tok) (u : Stand) → reach m s at (ks ++ ls) ≡ Ok u → (v : Stand) × (reach m s at ks ≡ Ok v) × (reach m v (passed at ks) ls ≡ Ok u)
   reach_split s at ks ls u e = on_ok (reach m s at ks) _ u (sym (reach_append s at ks ls) ∙ e)
@@ -37,10 +37,10 @@ module _ (m : Limits) where
   pub reach_first : (s : Stand) (at : At) (k : Tok) (ks : List Tok) (u : Stand) → reach m s at (k ∷ ks) ≡ Ok u → (v : Stand) × (sheet_step m s at k ≡ Ok v) × (reach m v (past at k) ks ≡ Ok u)
   reach_first s at k ks u e = on_ok (sheet_step m s at k) _ u e
 
-  pub run_reach : (s : Stand) (at : At) (ks : List Tok) → sheet_run m s at ks ≡ and_on (reach m s at ks) (λ u. sheet_end u (passed at ks))
+  pub run_reach : (s : Stand) (at : At) (ks : List Tok) → sheet_run m s at ks ≡ chain (reach m s at ks) (λ u. sheet_end u (passed at ks))
   run_reach s at [] = refl
   run_reach s at (k ∷ ks) =
-      elim (sheet_step m s at k) as (λ r. and_on r (λ u. sheet_run m u (past at k) ks) ≡ and_on (and_on r (λ u. reach m u (past at k) ks)) (λ u. sheet_end u (passed at (k ∷ ks))))
+      elim (sheet_step m s at k) as (λ r. chain r (λ u. sheet_run m u (past at k) ks) ≡ chain (chain r (λ u. reach m u (past at k) ks)) (λ u. sheet_end u (passed at (k ∷ ks))))
       [ Ok u ↦ run_reach u (past at k) ks | Err g ↦ refl ]
 
   -- an accepted text comes to a stand where it may end
@@ -68,10 +68,10 @@ module _ (m : Limits) where
 
   stops_at : (s : Stand) (at : At) (k : Tok) (ks : List Tok) (f : SheetFault) (r : Move) → sheet_step m s at k ≡ r
       → ((u : Stand) → sheet_run m u (past at k) ks ≡ Err f → Stops u (past at k) ks f)
-      → and_on r (λ u. sheet_run m u (past at k) ks) ≡ Err f → Stops s at (k ∷ ks) f
+      → chain r (λ u. sheet_run m u (past at k) ks) ≡ Err f → Stops s at (k ∷ ks) f
   stops_at s at k ks f (Ok u) e later q =
       let z = later u q in
-      record { before = suc z.before; stand = z.stand; there = ap (λ (r : Move). and_on r (λ v. reach m v (past at k) (take z.before ks))) e ∙ z.there; refuses = z.refuses }
+      record { before = suc z.before; stand = z.stand; there = ap (λ (r : Move). chain r (λ v. reach m v (past at k) (take z.before ks))) e ∙ z.there; refuses = z.refuses }
   stops_at s at k ks f (Err g) e later q = record { before = 0; stand = s; there = refl; refuses = e ∙ ap Err (same_fault q) }
 
   -- a refused text stops a run

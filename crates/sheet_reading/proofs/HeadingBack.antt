@@ -12,7 +12,8 @@ use Rattle.reading.proofs.Digits.{numbered_decimal}
 use Rattle.reading.proofs.Counting.{count_set, bare_op, bare}
 use Rattle.reading.proofs.Naming.{bare_found, unfound}
 use Rattle.reading.proofs.Lines.{follow, line, name_tok, count_tok, heading_tokens, all_ranked}
-use Rattle.sheet_reading.specs.Heading.{Outcome, named_once, counted, and_on}
+use Rattle.reading.specs.Heading.{Outcome, named_once, counted}
+use Rattle.reading.specs.Reading.{chain}
 use Rattle.sheet_reading.specs.Sheet.{Limits}
 use Rattle.sheet_reading.specs.Reading.{in_heading, wants_value, Move, headed}
 use Rattle.sheet_reading.proofs.Going.{reach, Leads}
@@ -20,7 +21,7 @@ use Rattle.sheet_reading.proofs.Going.{reach, Leads}
 module _ (m : Limits) where
   -- what follows a token
   abbrev on : At → Tok → List Tok → Outcome → Move
-  on at k ks r = and_on (and_on r (λ g. Ok (headed g))) (λ u. reach m u (past at k) ks)
+  on at k ks r = chain (chain r (λ g. Ok (headed g))) (λ u. reach m u (past at k) ks)
 
   count_back : (front rest : Sig) (o : Op) (f : ℕ) (at : At) (ks : List Tok) → length front ≡ f → o.arity ≤ 3
       → reach m (in_heading (front ++ (bare_op o ∷ rest), WantsCount f)) at (count_tok o ∷ ks) ≡ reach m (in_heading ((front ++ (o ∷ [])) ++ rest, HasCount f)) (past at (count_tok o)) ks

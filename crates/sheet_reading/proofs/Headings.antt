@@ -10,11 +10,10 @@ use Rattle.reading.specs.declared.token.Mark.TheVariants.{Opening, Closing, Comm
 use Rattle.reading.specs.declared.heading.Stage.TheVariants.{WantsName, HasName, WantsCount, HasCount, Done}
 use Rattle.reading.specs.Tokens.{Tok, a_name, a_number, an_instrument, a_variable, a_mark, a_stray}
 use Rattle.reading.specs.Numbers.{numbered}
-use Rattle.reading.specs.Heading.{Head}
+use Rattle.reading.specs.Heading.{Head, Outcome, named_once, wants_name, has_name_mark, has_name, counted, wants_count, has_count_mark, has_count, head_step}
 use Rattle.reading.specs.Laws.{AllDigits}
 use Rattle.reading.proofs.Digits.{numbers}
 use Rattle.reading.proofs.Lines.{line, name_tok, count_tok}
-use Rattle.sheet_reading.specs.Heading.{Outcome, named_once, wants_name, has_name_mark, has_name, counted, wants_count, has_count_mark, has_count, head_step}
 use Rattle.sheet_reading.specs.Laws.{Behind, many_names}
 use Rattle.sheet_reading.proofs.Tokens.{Lexed}
 use Rattle.sheet_reading.proofs.Stands.{blanked, spaced, spaced_push, spaced_blank, spaced_end, names_blanked, head_tokens}

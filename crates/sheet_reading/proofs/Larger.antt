@@ -8,10 +8,9 @@ use Rattle.reading.specs.declared.heading.Stage.TheVariants.{WantsName, HasName,
 use Rattle.reading.specs.declared.fault.TextFault.TheVariants.{PastLimit}
 use Rattle.reading.specs.Tokens.{Tok, a_name, a_number, an_instrument, a_variable, a_mark, a_stray, past}
 use Rattle.reading.specs.Reading.{top, within, State, wants, opens, has}
-use Rattle.reading.specs.Heading.{Head}
+use Rattle.reading.specs.Heading.{Head, Outcome, named_once, wants_name, head_step}
 use Rattle.reading.specs.declared.fault.SheetFault.{SheetFault}
 use Rattle.reading.specs.declared.fault.SheetFault.TheVariants.{Text}
-use Rattle.sheet_reading.specs.Heading.{Outcome, named_once, wants_name, head_step}
 use Rattle.sheet_reading.specs.Values.{Grid}
 use Rattle.sheet_reading.specs.Sheet.{Limits}
 use Rattle.sheet_reading.specs.Sides.{Hand, side_step}

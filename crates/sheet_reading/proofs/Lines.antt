@@ -9,7 +9,7 @@ use Rattle.reading.specs.Tokens.{Tok, a_mark, tokens}
 use Rattle.reading.proofs.Digits.{all_digits_decimal}
 use Rattle.reading.proofs.Lexing.{Stops, tokens_name}
 use Rattle.reading.proofs.Lines.{line, name_tok, count_tok, heading_tokens, tokens_number, all_ranked}
-use Rattle.sheet_reading.specs.Heading.{line_of, heading_text}
+use Rattle.reading.specs.Heading.{line_of, heading_text}
 
 -- a part's token is read, whatever follows that does not go on with it
 abbrev pub Shows : {A : Type 0} → (A → List ℕ) → (A → Tok) → A → Type 0

@@ -5,7 +5,7 @@ use Rattle.std.proofs.lemmas.Bool.{cond-true, cond_both, le-leb, leb-true, leb-f
 use Rattle.std.proofs.ByRecursion.{All-take, All-drop}
 use Rattle.reading.specs.declared.fault.TextFault.TheVariants.{PastLimit}
 use Rattle.reading.specs.Tokens.{Tok, tokens, whole, origin}
-use Rattle.reading.specs.Reading.{top, within, wants, opens, has}
+use Rattle.reading.specs.Reading.{top, within, wants, opens, has, chain}
 use Rattle.reading.specs.Heading.{sheet_limit}
 use Rattle.reading.specs.Laws.{Wrong, first_of}
 use Rattle.reading.proofs.Equal.{no_some, same_some, not_both, same_ok}
@@ -13,7 +13,6 @@ use Rattle.reading.proofs.Tokens.{whole_tokens}
 use Rattle.reading.proofs.Running.{passed}
 use Rattle.reading.specs.declared.fault.SheetFault.{SheetFault}
 use Rattle.reading.specs.declared.fault.SheetFault.TheVariants.{Text}
-use Rattle.sheet_reading.specs.Heading.{and_on}
 use Rattle.sheet_reading.specs.Sheet.{Sheet, SheetShaped, limits, SheetWithin, sheet_text}
 use Rattle.sheet_reading.specs.Sides.{on_left, on_right}
 use Rattle.sheet_reading.specs.Reading.{Stand, in_heading, wants_value, has_value, has_word, in_rule, rule_end, sheet_end, sheet_run, read_sheet}
@@ -96,7 +95,7 @@ module _ (b : List ℕ) where
   accepted s h w e l =
       cond-true _ _ _ (le-leb (length b) sheet_limit l)
       ∙ run_reach limits start origin (tokens b)
-      ∙ ap (λ (x : Result Stand SheetFault). and_on x (λ u. sheet_end u (passed origin (tokens b))))
+      ∙ ap (λ (x : Result Stand SheetFault). chain x (λ u. sheet_end u (passed origin (tokens b))))
       (ap (λ x. reach limits start origin (tokens x)) (sym e) ∙ ap (reach limits start origin) (tokens_sheet s h) ∙ sheet_back limits s h w origin)
 
 pub sheet_law : (b : List ℕ) → SheetLaw b

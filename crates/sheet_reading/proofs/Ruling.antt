@@ -14,11 +14,10 @@ use Rattle.reading.specs.declared.fault.TextFault.{TextFault}
 use Rattle.reading.specs.declared.fault.TextFault.TheVariants.{Stray, BadNumber, Unexpected, Undeclared, WrongArity, PastLimit}
 use Rattle.reading.specs.Tokens.{Tok, a_name, a_number, an_instrument, a_variable, a_mark, a_stray, tokens}
 use Rattle.reading.specs.Numbers.{instrument_number}
-use Rattle.reading.specs.Reading.{top, within, State, wants, opens, has, with_name, with_number}
+use Rattle.reading.specs.Reading.{top, within, State, wants, opens, has, with_name, with_number, chain}
 use Rattle.reading.proofs.States.{state_tokens}
 use Rattle.reading.specs.declared.fault.SheetFault.{SheetFault}
 use Rattle.reading.specs.declared.fault.SheetFault.TheVariants.{Text, Repeated, Headless, Doubled, Unbound}
-use Rattle.sheet_reading.specs.Heading.{and_on}
 use Rattle.sheet_reading.specs.Values.{Grid}
 use Rattle.sheet_reading.specs.Sheet.{SheetShaped, Limits, limits}
 use Rattle.sheet_reading.specs.Sides.{Hand, on_left, on_right, room, within_room, in_text, fronted, variable_on, side_step}
@@ -40,7 +39,7 @@ abbrev Never : {A : Type 0} → Result A SheetFault → Type 0
 Never (Ok u) = ⊥
 Never (Err f) = Unit {0}
 
-shut : (m : Limits) (rules : ℕ) (at : At) (r : Result State SheetFault) (g : State → Result State SheetFault) → m.rules ≤ rules → Never (and_on r (λ u. within_room m rules top at (g u)))
+shut : (m : Limits) (rules : ℕ) (at : At) (r : Result State SheetFault) (g : State → Result State SheetFault) → m.rules ≤ rules → Never (chain r (λ u. within_room m rules top at (g u)))
 shut m rules at (Ok u) g h = subst Never (sym (cond-false (room m rules top) (g u) (Err (Text (PastLimit at))) (and_left (ltb rules m.rules) _ (le-ltb rules m.rules h)))) tt
 shut m rules at (Err f) g h = tt
 
@@ -48,7 +47,7 @@ none_begins : (m : Limits) (sig : Sig) (rules : ℕ) (d : Hand) (at : At) (k : T
 none_begins m sig rules d at (a_name s) h = shut m rules at (in_text (with_name sig (found sig s) at top)) (λ u. Ok u) h
 none_begins m sig rules d at (a_number s) h = tt
 none_begins m sig rules d at (an_instrument s) h = shut m rules at (in_text (with_number (instrument_number s) at top)) (λ u. fronted d top at u) h
-none_begins m sig rules d at (a_variable x) h = shut m rules at (Ok (wants top)) (λ _. and_on (fronted d top at (wants top)) (λ _. variable_on d x top at)) h
+none_begins m sig rules d at (a_variable x) h = shut m rules at (Ok (wants top)) (λ _. chain (fronted d top at (wants top)) (λ _. variable_on d x top at)) h
 none_begins m sig rules d at (a_mark j) h = tt
 none_begins m sig rules d at (a_stray b) h = tt
 
@@ -140,7 +139,7 @@ module _ (sig : Sig) (grid : Grid) (rules : List Rule) (at : At) (k : Tok) where
 
   -- inside a side
   said_side : (d : Hand) (s : State) → Ruled sig grid rules d s → Here d s → (r : Result State SheetFault) → side_step limits sig (length rules) d s at k ≡ r → Tells sig limits (length rules) (before_side sig grid rules d) d s at k r
-      → Answer d s (and_on r (λ u. Ok (in_rule sig grid rules d u)))
+      → Answer d s (chain r (λ u. Ok (in_rule sig grid rules d u)))
   said_side d s g p (Err f) e z = λ o q.
       subst (λ x. Cause x (before_side sig grid rules d ++ state_tokens sig s) (Some k) f) (sym q) (side_cause sig grid rules g.shaped d s g.hand g.within.few_rules g.last at k p f z)
   said_side d s g p (Ok u) e z = (

@@ -11,14 +11,13 @@ use Rattle.terms.specs.Substitution.{occurrences, occurrences_in}
 use Rattle.reading.specs.declared.token.At.{At}
 use Rattle.reading.specs.declared.token.Mark.TheVariants.{Opening, Closing, Comma}
 use Rattle.reading.specs.Tokens.{Tok, a_name, a_mark, tokens, past}
-use Rattle.reading.specs.Reading.{Context, top, within, State, wants, has, and_then, named, with_number}
+use Rattle.reading.specs.Reading.{Context, top, within, State, wants, has, and_then, named, with_number, chain}
 use Rattle.reading.specs.Laws.{further_arguments, arguments_so_far}
 use Rattle.reading.proofs.Digits.{numbered_decimal}
 use Rattle.reading.proofs.Lexing.{closing}
 use Rattle.reading.proofs.Running.{passed}
 use Rattle.reading.proofs.Back.{join, join_then, then_join, name_step}
 use Rattle.reading.specs.declared.fault.SheetFault.{SheetFault}
-use Rattle.sheet_reading.specs.Heading.{and_on}
 use Rattle.sheet_reading.specs.Sheet.{Limits, SideWithin}
 use Rattle.sheet_reading.specs.Sides.{Hand, on_left, on_right, symbols_before, depth, occurrences_before, room, within_room, in_text, fronted, variable_on, side_step}
 use Rattle.sheet_reading.proofs.Lexing.{tokens_term}
@@ -94,15 +93,15 @@ module _ {sig : Sig} (good : Declared sig) (m : Limits) (rules : ℕ) (room_for_
   abbrev reach : State → At → List Tok → Result State SheetFault
   reach = side_reach m sig rules d
 
-  reach_append : (s : State) (at : At) (ks ls : List Tok) → reach s at (ks ++ ls) ≡ and_on (reach s at ks) (λ u. reach u (passed at ks) ls)
+  reach_append : (s : State) (at : At) (ks ls : List Tok) → reach s at (ks ++ ls) ≡ chain (reach s at ks) (λ u. reach u (passed at ks) ls)
   reach_append s at [] ls = refl
   reach_append s at (k ∷ ks) ls =
-      elim (side_step m sig rules d s at k) as (λ r. and_on r (λ u. reach u (past at k) (ks ++ ls)) ≡ and_on (and_on r (λ u. reach u (past at k) ks)) (λ u. reach u (passed at (k ∷ ks)) ls))
+      elim (side_step m sig rules d s at k) as (λ r. chain r (λ u. reach u (past at k) (ks ++ ls)) ≡ chain (chain r (λ u. reach u (past at k) ks)) (λ u. reach u (passed at (k ∷ ks)) ls))
       [ Ok u ↦ reach_append u (past at k) ks ls | Err g ↦ refl ]
 
   -- behind the first tokens, and from there behind the others
   reach_join : (s : State) (at : At) (ks ls : List Tok) (v u : State) → reach s at ks ≡ Ok v → reach v (passed at ks) ls ≡ Ok u → reach s at (ks ++ ls) ≡ Ok u
-  reach_join s at ks ls v u e q = reach_append s at ks ls ∙ ap (λ r. and_on r (λ u. reach u (passed at ks) ls)) e ∙ q
+  reach_join s at ks ls v u e q = reach_append s at ks ls ∙ ap (λ r. chain r (λ u. reach u (passed at ks) ls)) e ∙ q
 
   -- some tokens are read as the term, wherever it fits
   abbrev Reads : List Tok → Term → Type 0
@@ -131,15 +130,15 @@ module _ {sig : Sig} (good : Declared sig) (m : Limits) (rules : ℕ) (room_for_
     reads (variable x) h k at r = (
       None,
       ap (reach (wants k) at) (tokens_term good (variable x) h)
-          ∙ ap (λ q. and_on q (λ u. Ok u))
+          ∙ ap (λ q. chain q (λ u. Ok u))
           (cond-true _ _ _ (has_room m rules k room_for_rule (omega (arith, r.few)) (omega (arith, r.low)))
-          ∙ ap (λ q. and_on q (λ _. variable_on d x k at)) (passes_front d (variable x) k at (wants k) (λ z. z) r.in_front) ∙ variable_stands d x k at (r.may_stand x)),
+          ∙ ap (λ q. chain q (λ _. variable_on d x k at)) (passes_front d (variable x) k at (wants k) (λ z. z) r.in_front) ∙ variable_stands d x k at (r.may_stand x)),
     )
     reads (instrument n) h k at r = (
       None,
       ap (reach (wants k) at) (tokens_term good (instrument n) h)
-          ∙ ap (λ o. and_on (and_on (in_text (with_number o at k)) (λ u. within_room m rules k at (fronted d k at u))) (λ u. Ok u)) (numbered_decimal 999999 n (omega arith) h)
-          ∙ ap (λ q. and_on q (λ u. Ok u))
+          ∙ ap (λ o. chain (chain (in_text (with_number o at k)) (λ u. within_room m rules k at (fronted d k at u))) (λ u. Ok u)) (numbered_decimal 999999 n (omega arith) h)
+          ∙ ap (λ q. chain q (λ u. Ok u))
           (cond-true _ _ _ (has_room m rules k room_for_rule (omega (arith, r.few)) (omega (arith, r.low)))
           ∙ passes_front d (instrument n) k at (has (instrument n) None k) (λ z. z) r.in_front),
     )
@@ -149,8 +148,8 @@ module _ {sig : Sig} (good : Declared sig) (m : Limits) (rules : ℕ) (room_for_
         let (b, e) = reads_arguments ts h.2 f at k (past at w) (fits_arguments m d f ts k r) in (
           b,
           ap (reach (wants k) at) (tokens_term good (apply f ts) h)
-              ∙ ap (λ q. and_on (and_on (in_text q) (λ u. within_room m rules k at (Ok u))) (λ u. reach u (past at w) ks)) (name_step good f h.0 k at)
-              ∙ ap (λ q. and_on q (λ u. reach u (past at w) ks)) (cond-true _ _ _ (has_room m rules k room_for_rule (omega (arith, r.few)) (omega (arith, r.low))))
+              ∙ ap (λ q. chain (chain (in_text q) (λ u. within_room m rules k at (Ok u))) (λ u. reach u (past at w) ks)) (name_step good f h.0 k at)
+              ∙ ap (λ q. chain q (λ u. reach u (past at w) ks)) (cond-true _ _ _ (has_room m rules k room_for_rule (omega (arith, r.few)) (omega (arith, r.low))))
               ∙ ap (λ n. reach (named f n at k) (past at w) ks) (sym h.1) ∙ e,
         )
 

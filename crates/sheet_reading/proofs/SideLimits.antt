@@ -4,9 +4,8 @@ use Rattle.std.proofs.lemmas.Bool.{cond_both, cond-true, and_parts, and_from, lt
 use Rattle.terms.specs.Signature.{Sig}
 use Rattle.reading.specs.declared.token.At.{At}
 use Rattle.reading.specs.Tokens.{Tok, a_name, a_number, an_instrument, a_variable, a_mark, a_stray}
-use Rattle.reading.specs.Reading.{Context, State, wants, opens, has, on_wants}
+use Rattle.reading.specs.Reading.{Context, State, wants, opens, has, on_wants, chain}
 use Rattle.reading.specs.declared.fault.SheetFault.{SheetFault}
-use Rattle.sheet_reading.specs.Heading.{and_on}
 use Rattle.sheet_reading.specs.Sheet.{Limits}
 use Rattle.sheet_reading.specs.Sides.{Hand, symbols_before, depth, room, within_room, in_text, fronted, side_step}
 use Rattle.sheet_reading.proofs.SideFacts.{More, OfLimit}
@@ -20,9 +19,9 @@ pub same : {A : Type 0} (r : Result A SheetFault) → Stays r r
 same (Ok u) = refl
 same (Err f) = λ _. refl
 
-pub stays_on : {A B : Type 0} (r q : Result A SheetFault) (f g : A → Result B SheetFault) → Stays r q → ((u : A) → Stays (f u) (g u)) → Stays (and_on r f) (and_on q g)
-stays_on (Ok u) q f g h j = subst (λ x. Stays (f u) (and_on x g)) (sym h) (j u)
-stays_on (Err e) q f g h j = λ free. ap (λ x. and_on x g) (h free)
+pub stays_on : {A B : Type 0} (r q : Result A SheetFault) (f g : A → Result B SheetFault) → Stays r q → ((u : A) → Stays (f u) (g u)) → Stays (chain r f) (chain q g)
+stays_on (Ok u) q f g h j = subst (λ x. Stays (f u) (chain x g)) (sym h) (j u)
+stays_on (Err e) q f g h j = λ free. ap (λ x. chain x g) (h free)
 
 module _ (m n : Limits) (more : More m n) (rules : ℕ) where
   more_room : (k : Context) → room m rules k ≡ true → room n rules k ≡ true

@@ -13,7 +13,7 @@ use Rattle.reading.specs.declared.fault.TextFault.{TextFault}
 use Rattle.reading.specs.declared.fault.TextFault.TheVariants.{BadNumber}
 use Rattle.reading.specs.Tokens.{Tok, a_name, a_number, an_instrument, a_variable, a_mark, a_stray, tokens, lines}
 use Rattle.reading.specs.Numbers.{plain, instrument_number}
-use Rattle.reading.specs.Reading.{Context, top, within, State, wants, opens, has, and_then, unless_some, fault_of, named, with_name, with_number, needless, closed, continued, on_opens_mark, on_has_mark}
+use Rattle.reading.specs.Reading.{Context, top, within, State, wants, opens, has, and_then, unless_some, fault_of, named, with_name, with_number, needless, closed, continued, on_opens_mark, on_has_mark, chain}
 use Rattle.reading.specs.Laws.{Wrong, ShowsCount, needless_opening, missing_opening, comma_for_closing, closing_for_comma}
 use Rattle.reading.proofs.Equal.{same_some}
 use Rattle.reading.proofs.Digits.{instrument_is}
@@ -21,7 +21,6 @@ use Rattle.reading.proofs.Names.{found_is}
 use Rattle.reading.proofs.States.{name_of, awaiting, stack_tokens, state_tokens, arguments_then, many_then}
 use Rattle.reading.specs.declared.fault.SheetFault.{SheetFault}
 use Rattle.reading.specs.declared.fault.SheetFault.TheVariants.{Headless}
-use Rattle.sheet_reading.specs.Heading.{and_on}
 use Rattle.sheet_reading.specs.Sheet.{Limits}
 use Rattle.sheet_reading.specs.Sides.{Hand, on_left, on_right, symbols_before, depth, occurrences_before, room, within_room, in_text, fronted, variable_on, side_step}
 use Rattle.sheet_reading.specs.Reading.{is_mark}
@@ -123,14 +122,14 @@ module _ {sig : Sig} (good : Declared sig) (before : List Tok) where
     tells_named d k f (suc n) at g p h e r = goes_good d (wants k) (named f (suc n) at k) at (name_of sig f) g (goes_named good before d k f (suc n) at g.begun p h e) refl (omega arith) (omega arith, g.low)
 
     tells_name : (d : Hand) (k : Context) (s : List ℕ) (at : At) (o : Option ℕ) → found sig s ≡ o → Good sig m before d (wants k) → Behind (before ++ stack_tokens sig k) at
-        → Tells sig m rules before d (wants k) at (a_name s) (and_on (in_text (with_name sig o at k)) (λ u. within_room m rules k at (Ok u)))
+        → Tells sig m rules before d (wants k) at (a_name s) (chain (in_text (with_name sig o at k)) (λ u. within_room m rules k at (Ok u)))
     tells_name d k s at None e g p = (refl, (s, refl, e))
     tells_name d k s at (Some f) e g p =
         let (h, q) = found_is sig s f e in
         in_room d k at (a_name s) _ g refl (λ r. subst (λ x. Tells sig m rules before d (wants k) at (a_name x) (Ok (named f (op_of sig f).arity at k))) q (tells_named d k f (op_of sig f).arity at g p h refl r))
 
     tells_number : (d : Hand) (k : Context) (s : List ℕ) (at : At) (o : Option ℕ) → instrument_number s ≡ o → Lexed (an_instrument s) → Good sig m before d (wants k)
-        → Tells sig m rules before d (wants k) at (an_instrument s) (and_on (in_text (with_number o at k)) (λ u. within_room m rules k at (fronted d k at u)))
+        → Tells sig m rules before d (wants k) at (an_instrument s) (chain (in_text (with_number o at k)) (λ u. within_room m rules k at (fronted d k at u)))
     tells_number d k s at None e l g = (refl, (s, inr refl))
     tells_number d k s at (Some n) e l g =
         let (q, h) = instrument_is s n l e in
@@ -230,7 +229,7 @@ module _ {sig : Sig} (good : Declared sig) (before : List Tok) where
     tells d (wants k) at (a_number s) l g p = ill_number _ s at _ refl
     tells d (wants k) at (an_instrument s) l g p = tells_number d k s at (instrument_number s) refl l g
     tells d (wants k) at (a_variable x) l g p =
-        in_room d k at (a_variable x) _ g refl (λ r. in_front d k at (wants k) (λ q. Tells sig m rules before d (wants k) at (a_variable x) (and_on q (λ _. variable_on d x k at))) (λ i j. (refl, i, j)) (on_variable d k x at l g r))
+        in_room d k at (a_variable x) _ g refl (λ r. in_front d k at (wants k) (λ q. Tells sig m rules before d (wants k) at (a_variable x) (chain q (λ _. variable_on d x k at))) (λ i j. (refl, i, j)) (on_variable d k x at l g r))
     tells d (wants k) at (a_mark j) l g p = refl
     tells d (wants k) at (a_stray b) l g p = (refl, (b, refl))
     tells d (opens f a n k) at (a_name s) l g p = unopened d f a n k _ g refl

@@ -5,14 +5,13 @@ use Rattle.terms.specs.Signature.{Sig}
 use Rattle.reading.specs.declared.token.At.{At}
 use Rattle.reading.specs.declared.heading.Stage.TheVariants.{WantsName, HasName, WantsCount, HasCount, Done}
 use Rattle.reading.specs.Tokens.{Tok, past}
-use Rattle.reading.specs.Reading.{top, within, wants, opens, has}
-use Rattle.reading.specs.Heading.{Head}
+use Rattle.reading.specs.Reading.{top, within, wants, opens, has, chain}
+use Rattle.reading.specs.Heading.{Head, Outcome, head_step}
 use Rattle.reading.specs.Laws.{Wrong}
 use Rattle.reading.proofs.Equal.{no_some, not_both, same_ok, same_fault}
 use Rattle.reading.proofs.Lines.{heading_tokens}
 use Rattle.reading.proofs.Running.{passed}
 use Rattle.reading.specs.declared.fault.SheetFault.{SheetFault}
-use Rattle.sheet_reading.specs.Heading.{Outcome, head_step, and_on}
 use Rattle.sheet_reading.specs.Sheet.{limits}
 use Rattle.sheet_reading.specs.Sides.{on_left, on_right}
 use Rattle.sheet_reading.specs.Reading.{Stand, in_heading, wants_value, has_value, has_word, in_rule, headed, sheet_step, rule_end, sheet_end}
@@ -41,7 +40,7 @@ headed_tokens (sig, WantsCount f) = refl
 headed_tokens (sig, HasCount f) = refl
 headed_tokens (sig, Done) = append-nil _ ∙ append-nil (heading_tokens sig)
 
-said_heading : (h : Head) (k : Tok) (r : Outcome) → HeadSaid h k r → Said (in_heading h) k (and_on r (λ g. Ok (headed g)))
+said_heading : (h : Head) (k : Tok) (r : Outcome) → HeadSaid h k r → Said (in_heading h) k (chain r (λ g. Ok (headed g)))
 said_heading h k (Ok g) z = (good_headed g z.0, headed_tokens g ∙ z.1)
 said_heading h k (Err f) z = λ o _. z o
 

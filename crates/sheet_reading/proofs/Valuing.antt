@@ -13,7 +13,7 @@ use Rattle.reading.specs.Laws.{AllDigits}
 use Rattle.reading.proofs.Digits.{numbers}
 use Rattle.reading.proofs.Lines.{heading_tokens}
 use Rattle.reading.specs.declared.fault.SheetFault.{SheetFault}
-use Rattle.sheet_reading.specs.Heading.{and_on}
+use Rattle.reading.specs.Reading.{chain}
 use Rattle.sheet_reading.specs.Values.{Value, Grid, range_of, ValueIn, LineIn}
 use Rattle.sheet_reading.specs.Sheet.{limits}
 use Rattle.sheet_reading.specs.Sides.{on_left}
@@ -95,7 +95,7 @@ module _ (sig : Sig) (grid : Grid) (at : At) (k : Tok) where
   said_word (v ∷ vs) g e w = absurd (false≢true e)
 
   one_value : (vs : List Value) → Valued sig grid vs → length vs < length sig → length grid < 8 → (r : Result Value SheetFault) → ValueSaid k at (range_of (length grid) (op_of sig (length vs)).arity) r
-      → Behind (stand_tokens (wants_value sig grid vs)) at → Said (wants_value sig grid vs) k (and_on r (λ v. Ok (has_value sig grid (vs ++ (v ∷ [])))))
+      → Behind (stand_tokens (wants_value sig grid vs)) at → Said (wants_value sig grid vs) k (chain r (λ v. Ok (has_value sig grid (vs ++ (v ∷ [])))))
   one_value vs g l h (Err f) z p = λ o _. z o _ p
   one_value vs g l h (Ok v) z p = (
     (record { operators = g.operators; some = g.some; in_range = g.in_range; so_far = part_push (length grid) sig vs v g.so_far l z.0; at_most = omega arith; not_last = λ _. h }, omega (arith, length_push vs v)),

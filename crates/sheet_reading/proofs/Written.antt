@@ -9,7 +9,7 @@ use Rattle.reading.specs.declared.token.Mark.TheVariants.{Equals, LineEnd}
 use Rattle.reading.specs.Tokens.{a_mark, tokens}
 use Rattle.reading.proofs.Digits.{all_digits_decimal}
 use Rattle.reading.proofs.Lines.{line, heading_tokens, tokens_number}
-use Rattle.sheet_reading.specs.Heading.{line_of}
+use Rattle.reading.specs.Heading.{line_of}
 use Rattle.sheet_reading.specs.Values.{Value, Grid, value_text, range_of, ValueIn, LineIn, GridIn, grid_text}
 use Rattle.sheet_reading.specs.Sheet.{Sheet, SheetShaped, rule_text, rules_text, sheet_text}
 use Rattle.sheet_reading.proofs.Lexing.{tokens_before}

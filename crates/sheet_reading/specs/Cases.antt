@@ -6,10 +6,9 @@ use Rattle.reading.specs.declared.token.At.{At}
 use Rattle.reading.specs.declared.fault.TextFault.TheVariants.{Stray, BadNumber, Unexpected, Undeclared, WrongArity, PastLimit}
 use Rattle.reading.specs.Tokens.{origin}
 use Rattle.reading.specs.Cases.{sample}
-use Rattle.reading.specs.Heading.{sheet_limit}
+use Rattle.reading.specs.Heading.{sheet_limit, line_of}
 use Rattle.reading.specs.declared.fault.SheetFault.{SheetFault}
 use Rattle.reading.specs.declared.fault.SheetFault.TheVariants.{Text, Repeated, Headless, Doubled, Unbound}
-use Rattle.sheet_reading.specs.Heading.{line_of}
 use Rattle.sheet_reading.specs.Values.{Grid}
 use Rattle.sheet_reading.specs.Sheet.{Sheet}
 use Rattle.sheet_reading.specs.Reading.{read_sheet}

@@ -1,4 +1,3 @@
-pub mod Heading
 pub mod Values
 pub mod Sheet
 pub mod Sides

@@ -9,13 +9,12 @@ use Rattle.reading.specs.declared.token.Mark.{Mark}
 use Rattle.reading.specs.declared.token.Mark.TheVariants.{Equals, Dash, Blank, LineEnd}
 use Rattle.reading.specs.declared.heading.Stage.TheVariants.{WantsName, HasName, WantsCount, HasCount, Done}
 use Rattle.reading.specs.declared.fault.TextFault.TheVariants.{BadNumber, Unexpected, WrongArity, PastLimit}
-use Rattle.reading.specs.Tokens.{Tok, a_name, a_number, an_instrument, a_variable, a_mark, a_stray, tokens, mark_byte, origin, past}
+use Rattle.reading.specs.Tokens.{Tok, a_name, a_number, an_instrument, a_variable, a_mark, a_stray, tokens, mark_byte, origin}
 use Rattle.reading.specs.Numbers.{numbered}
-use Rattle.reading.specs.Reading.{top, within, State, wants, opens, has}
-use Rattle.reading.specs.Heading.{Head, sheet_limit}
+use Rattle.reading.specs.Reading.{top, within, State, wants, opens, has, chain, run_with}
+use Rattle.reading.specs.Heading.{Head, sheet_limit, head_step, not_here}
 use Rattle.reading.specs.declared.fault.SheetFault.{SheetFault}
 use Rattle.reading.specs.declared.fault.SheetFault.TheVariants.{Text}
-use Rattle.sheet_reading.specs.Heading.{head_step, and_on, not_here}
 use Rattle.sheet_reading.specs.Values.{Value, Grid, range_of}
 use Rattle.sheet_reading.specs.Sheet.{Sheet, Limits, limits}
 use Rattle.sheet_reading.specs.Sides.{Hand, on_left, on_right, side_step}
@@ -93,7 +92,7 @@ rules_may_come grid (v ∷ vs) = false
 abbrev pub on_value : Sig → Grid → List Value → Tok → At → Move
 on_value sig grid vs tok at =
     cond (nat_lt (length grid) 8)
-    (and_on (value_of (range_of (length grid) (op_of sig (length vs)).arity) tok at) (λ v. Ok (has_value sig grid (vs ++ (v ∷ [])))))
+    (chain (value_of (range_of (length grid) (op_of sig (length vs)).arity) tok at) (λ v. Ok (has_value sig grid (vs ++ (v ∷ [])))))
     (not_here tok at)
 
 abbrev pub on_line : Sig → Grid → List Value → Tok → At → Move
@@ -120,7 +119,7 @@ behind_side sig grid rules on_left t = in_rule sig grid rules (on_right t) (want
 behind_side sig grid rules (on_right l) t = in_rule sig grid (rules ++ (record { left = l; right = t } ∷ [])) on_left (wants top)
 
 abbrev pub in_side : Limits → Sig → Grid → List Rule → Hand → State → Tok → At → Move
-in_side m sig grid rules d s tok at = and_on (side_step m sig (length rules) d s at tok) (λ u. Ok (in_rule sig grid rules d u))
+in_side m sig grid rules d s tok at = chain (side_step m sig (length rules) d s at tok) (λ u. Ok (in_rule sig grid rules d u))
 
 abbrev pub on_rule : Limits → Sig → Grid → List Rule → Hand → State → Tok → At → Move
 on_rule m sig grid rules d (wants k) tok at = in_side m sig grid rules d (wants k) tok at
@@ -130,7 +129,7 @@ on_rule m sig grid rules d (has t b (within f a ts n k)) tok at = in_side m sig 
 
 -- one token
 abbrev pub sheet_step : Limits → Stand → At → Tok → Move
-sheet_step m (in_heading h) at tok = and_on (head_step m.operators h at tok) (λ g. Ok (headed g))
+sheet_step m (in_heading h) at tok = chain (head_step m.operators h at tok) (λ g. Ok (headed g))
 sheet_step m (wants_value sig grid vs) at tok = on_line sig grid vs tok at
 sheet_step m (has_value sig grid vs) at tok = behind_value sig grid vs tok at
 sheet_step m (has_word sig grid) at tok = behind_word sig grid tok at
@@ -154,8 +153,7 @@ sheet_end (in_rule sig grid rules d s) at = rule_end sig grid rules d s at
 
 -- all tokens from a stand on, and the end
 abbrev pub sheet_run : Limits → Stand → At → List Tok → Result Sheet SheetFault
-sheet_run m s at [] = sheet_end s at
-sheet_run m s at (k ∷ ks) = and_on (sheet_step m s at k) (λ u. sheet_run m u (past at k) ks)
+sheet_run m = run_with (sheet_step m) sheet_end
 
 unfoldable pub read_sheet : List ℕ → Result Sheet SheetFault
 read_sheet b = cond (nat_le (length b) sheet_limit) (sheet_run limits (in_heading ([], WantsName)) origin (tokens b)) (Err (Text (PastLimit origin)))

@@ -5,7 +5,7 @@ use Rattle.terms.specs.Term.{Term, symbols}
 use Rattle.terms.specs.Rule.{Rule, RuleOf, levels}
 use Rattle.terms.specs.Signature.{Sig, Declared}
 use Rattle.terms.specs.Text.{text_of}
-use Rattle.sheet_reading.specs.Heading.{heading_text}
+use Rattle.reading.specs.Heading.{heading_text}
 use Rattle.sheet_reading.specs.Values.{Grid, GridIn, grid_text}
 
 pub record Sheet : Type 0 where

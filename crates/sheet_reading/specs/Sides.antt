@@ -7,10 +7,9 @@ use Rattle.reading.specs.declared.token.At.{At}
 use Rattle.reading.specs.declared.fault.TextFault.{TextFault}
 use Rattle.reading.specs.declared.fault.TextFault.TheVariants.{PastLimit}
 use Rattle.reading.specs.Tokens.{Tok, a_name, a_number, an_instrument, a_variable, a_mark, a_stray}
-use Rattle.reading.specs.Reading.{Context, top, within, State, wants, opens, has, on_wants, on_opens, on_has}
+use Rattle.reading.specs.Reading.{Context, top, within, State, wants, opens, has, on_wants, on_opens, on_has, chain}
 use Rattle.reading.specs.declared.fault.SheetFault.{SheetFault}
 use Rattle.reading.specs.declared.fault.SheetFault.TheVariants.{Text, Headless, Doubled, Unbound}
-use Rattle.sheet_reading.specs.Heading.{and_on}
 use Rattle.sheet_reading.specs.Sheet.{Limits}
 
 -- the side that is read: the left one, or the right one beside this left one
@@ -58,10 +57,10 @@ variable_on (on_right l) x k at = cond (nat_lt 0 (occurrences x l)) (Ok (has (va
 
 -- where a term may begin; limits go behind what is wrong with the text, and before what is wrong with the sheet
 abbrev pub side_wants : Limits → Sig → ℕ → Hand → Tok → At → Context → Result State SheetFault
-side_wants m sig rules d (a_name s) at k = and_on (in_text (on_wants sig (a_name s) at k)) (λ u. within_room m rules k at (Ok u))
+side_wants m sig rules d (a_name s) at k = chain (in_text (on_wants sig (a_name s) at k)) (λ u. within_room m rules k at (Ok u))
 side_wants m sig rules d (a_number s) at k = in_text (on_wants sig (a_number s) at k)
-side_wants m sig rules d (an_instrument s) at k = and_on (in_text (on_wants sig (an_instrument s) at k)) (λ u. within_room m rules k at (fronted d k at u))
-side_wants m sig rules d (a_variable x) at k = within_room m rules k at (and_on (fronted d k at (wants k)) (λ _. variable_on d x k at))
+side_wants m sig rules d (an_instrument s) at k = chain (in_text (on_wants sig (an_instrument s) at k)) (λ u. within_room m rules k at (fronted d k at u))
+side_wants m sig rules d (a_variable x) at k = within_room m rules k at (chain (fronted d k at (wants k)) (λ _. variable_on d x k at))
 side_wants m sig rules d (a_mark j) at k = in_text (on_wants sig (a_mark j) at k)
 side_wants m sig rules d (a_stray b) at k = in_text (on_wants sig (a_stray b) at k)
 

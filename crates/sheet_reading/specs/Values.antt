@@ -1,7 +1,7 @@
 -- The values of weighings, as a sheet writes them: lines of values, one for each operator.
 use Rattle.std.specs.Prelude.{ℕ, zero, suc, ◌%◌, ◌≤◌, cond, List, [], ◌∷◌, ◌++◌, Some, None, decimal, Option, nat_lt, slice_index_or}
 use Rattle.terms.specs.Signature.{Sig}
-use Rattle.sheet_reading.specs.Heading.{line_of}
+use Rattle.reading.specs.Heading.{line_of}
 
 -- a number, or '-'
 abbrev pub Value : Type 0
