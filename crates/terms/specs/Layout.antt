@@ -1,5 +1,6 @@
--- What an array of nodes that is filled from its front holds.
-use Rattle.std.specs.Prelude.{◌≡◌, ℕ, ◌<◌, ◌≤◌, min, List, [], ◌∷◌, ◌++◌, length, take, Some, None, Option}
+-- What a layout holds.
+use Rattle.std.specs.Prelude.{◌≡◌, ℕ, ◌<◌, ◌≤◌, min, List, [], ◌∷◌, ◌++◌, length, Some, None, Option}
+use Rattle.fixed_vec.specs.FixedVec.{items}
 use Rattle.terms.specs.declared.node.Node.{Node}
 use Rattle.terms.specs.declared.layout.Layout.{Layout}
 use Rattle.terms.specs.Term.{Term}
@@ -7,7 +8,7 @@ use Rattle.terms.specs.Nodes.{laid}
 
 -- the nodes that are in use
 abbrev pub in_use : {N : ℕ} → Layout N → List Node
-in_use l = take l.len l.nodes
+in_use l = items l.nodes
 
 -- the nodes in use are those of the term, in reading order
 abbrev pub LaysOut : {N : ℕ} → Layout N → Term → Type 0

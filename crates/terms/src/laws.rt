@@ -2,23 +2,20 @@
 ghost use Rattle.terms.specs.Laws.{UniqueText, UniqueTermText, OneAtAPlace, ReadOffStands};
 
 // On the tickets of a signature, equal text exactly if equal term; the same of its terms with variables.
-pub fn text_is_unique() -> u8
+pub fn text_is_unique()
     ensures tickets { UniqueText }
     ensures terms { UniqueTermText }
 {
-    0
 }
 
 // At most one term stands at a place of a view.
-pub fn one_at_a_place() -> u8
+pub fn one_at_a_place()
     ensures { OneAtAPlace }
 {
-    0
 }
 
 // The term that stands at a place is the one that is read off there.
-pub fn what_stands_is_read_off() -> u8
+pub fn what_stands_is_read_off()
     ensures { ReadOffStands }
 {
-    0
 }

@@ -1,14 +1,10 @@
-ghost use Rattle.std.specs.Prelude.{◌≡◌, ◌≤◌, length};
-
 use crate::node::Node;
+use fixed_vec::FixedVec;
 
 pub mod laying;
 
-// Nodes in an array, in use from its front.
+// The nodes of terms, each at the place that is its number among them.
 #[derive(Clone, Copy)]
 pub struct Layout<const N: usize> {
-    nodes: [Node; N],
-    len: usize,
-    ghost whole: { length nodes ≡ N },
-    ghost fits: { len ≤ N },
+    nodes: FixedVec<Node, N>,
 }

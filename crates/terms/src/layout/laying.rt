@@ -1,4 +1,4 @@
-ghost use Rattle.std.specs.Prelude.{◌≡◌, ℕ, ◌<◌, ◌≤◌, List, [], ◌∷◌, ◌++◌, length, slice_index_or, slice_set};
+ghost use Rattle.std.specs.Prelude.{◌≡◌, ℕ, ◌<◌, ◌≤◌, List, [], ◌∷◌, ◌++◌, length, slice_index_or};
 ghost use Rattle.terms.specs.Nodes.{vacant, told, along, node_answers, with_next};
 ghost use Rattle.terms.specs.Layout.{in_use, Pushed};
 
@@ -6,6 +6,7 @@ use super::Layout;
 use crate::node::Node;
 use crate::symbol::Symbol;
 use crate::view::TermView;
+use fixed_vec::FixedVec;
 
 impl<const N: usize> Layout<N> {
     // With no node in use.
@@ -13,8 +14,7 @@ impl<const N: usize> Layout<N> {
         ensures { in_use result ≡ [] }
     {
         Layout {
-            nodes: [Node::VACANT; N],
-            len: 0,
+            nodes: FixedVec::new(Node::VACANT),
         }
     }
 
@@ -23,22 +23,15 @@ impl<const N: usize> Layout<N> {
         ensures value { result ≡ length (in_use self.now) }
         ensures few { result ≤ N }
     {
-        let Layout { len, .. } = self;
-        *len
+        self.nodes.len()
     }
 
     // Puts one more node into use and answers its place, or nothing where there is no room or no place number.
     pub fn push(&mut self, node: Node) -> Option<u16>
         ensures { Pushed N (in_use self.old) node (in_use self.new) result }
     {
-        if self.len >= N {
-            return None;
-        }
-        let Ok(place) = u16::try_from(self.len) else {
-            return None;
-        };
-        self.nodes[self.len] = node;
-        self.len += 1;
+        let place = u16::try_from(self.nodes.len()).ok()?;
+        self.nodes.push(node).ok()?;
         Some(place)
     }
 
@@ -48,44 +41,27 @@ impl<const N: usize> Layout<N> {
     {
         let node = self.node(place);
         let linked = Node {
-            symbol: node.symbol,
-            first: node.first,
             next: Some(next),
+            ..node
         };
-        self.store(place, linked);
-    }
-
-    // Puts a node at a place that is in use.
-    fn store(&mut self, place: u16, node: Node)
-        ensures { in_use self.new ≡ slice_set (in_use self.old) place node }
-    {
-        let at = place as usize;
-        if at < self.len {
-            self.nodes[at] = node;
-        }
+        self.nodes.set(usize::from(place), linked);
     }
 
     // The node at a place, vacant where none is in use.
     fn node(&self, place: u16) -> Node
         ensures { result ≡ slice_index_or (in_use self.now) place vacant }
     {
-        let at = place as usize;
-        if at >= self.len {
-            return Node::VACANT;
-        }
-        self.nodes[at]
+        self.nodes.get(usize::from(place)).copied().unwrap_or(Node::VACANT)
     }
 
     // So many siblings along from a link.
+    #[tactic(auto, using(crate::proofs::Nodes::along_next))]
     fn along(&self, start: Option<u16>, n: usize) -> Option<u16>
         ensures { result ≡ along (in_use self.now) start n }
     {
         let mut link = start;
         for _k in 0..n {
-            let Some(q) = link else {
-                return None;
-            };
-            link = self.node(q).next;
+            link = self.node(link?).next;
         }
         link
     }

@@ -1,0 +1,89 @@
+ghost use Rattle.std.specs.Prelude.{◌≡◌, [], ◌∷◌, ◌++◌, ◌≤◌, length, OnOk, OnErr, slice_set};
+ghost use Rattle.fixed_vec.specs.FixedVec.{items, content, Added, Removed, Popped};
+
+use crate::{FixedVec, Full};
+use std::ops::DerefSlice;
+
+impl<T: Copy, const N: usize> FixedVec<T, N> {
+    // With no item; the filler stands in its slots and is never read.
+    pub fn new(filler: T) -> FixedVec<T, N>
+        ensures { items result ≡ [] }
+    {
+        FixedVec {
+            slots: [filler; N],
+            len: 0,
+        }
+    }
+
+    // Puts an item behind the others, on top, where there is room.
+    pub fn push(&mut self, item: T) -> Result<(), Full>
+        ensures top { Added N (content self.old) item (content self.new) result }
+        ensures last { OnOk result (items self.new ≡ items self.old ++ item ∷ []) }
+        ensures full { OnErr result (N ≤ length (items self.old)) }
+        ensures kept { OnErr result (self.new ≡ self.old) }
+    {
+        if self.len >= N {
+            return Err(Full);
+        }
+        self.slots[self.len] = item;
+        self.len += 1;
+        Ok(())
+    }
+
+    // Takes the last item off, the top, if there is one.
+    pub fn pop(&mut self) -> Option<T>
+        ensures top { Removed (content self.old) (content self.new) result }
+        ensures last { Popped (items self.old) (items self.new) result }
+    {
+        if self.len == 0 {
+            return None;
+        }
+        self.len -= 1;
+        Some(self.slots[self.len])
+    }
+
+    // Puts an item in the place of another one; where none stands, nothing changes.
+    #[tactic(auto, using(crate::proofs::FixedVecs::replaced))]
+    pub fn set(&mut self, at: usize, item: T)
+        ensures { items self.new ≡ slice_set (items self.old) at item }
+    {
+        if at < self.len {
+            self.slots[at] = item;
+        }
+    }
+
+    // Takes every item off.
+    pub fn clear(&mut self)
+        ensures { items self.new ≡ [] }
+    {
+        self.len = 0;
+    }
+
+    // How many items are in use.
+    pub fn len(&self) -> usize
+        ensures value { result ≡ length (items self.now) }
+        ensures few { result ≤ N }
+    {
+        self.as_slice().len()
+    }
+
+    // The items in order.
+    pub fn as_slice(&self) -> &[T]
+        ensures value { result.now ≡ items self.now }
+        ensures few { length result.now ≤ N }
+    {
+        let all = &self.slots[..];
+        &all[0..self.len]
+    }
+}
+
+// Each method of slices is a method of the vector, over its items.
+impl<T: Copy, const N: usize> DerefSlice for FixedVec<T, N> {
+    type Elem = T;
+
+    ghost deref_gives = { λ v xs. (xs ≡ items v) × (length xs ≤ N) };
+
+    fn deref(&self) -> &[T] {
+        self.as_slice()
+    }
+}

@@ -1,0 +1,33 @@
+// A vector in an array.
+#![tactic(auto)]
+
+ghost use Rattle.std.specs.Prelude.{⊤, ◌≡◌, ◌≤◌, length};
+
+use std::alloc::AllocError;
+
+mod filling;
+
+// Up to N items in an array, in use from its front; as a stack, the last is the top.
+pub struct FixedVec<T, const N: usize> {
+    slots: [T; N],
+    len: usize,
+    ghost whole: { length slots ≡ N },
+    ghost fits: { len ≤ N },
+}
+
+// There is no room for one more item.
+#[derive(Clone, Copy, PartialEq, Eq, Debug)]
+pub struct Full;
+
+impl<T: Copy, const N: usize> Copy for FixedVec<T, N> {}
+
+// By hand: the derives of a generic struct are not proved beside ghost fields.
+impl<T: Copy, const N: usize> Clone for FixedVec<T, N> {
+    ghost is_clone = { λ v w. w ≡ v };
+
+    ghost is_infallible = { λ _. ⊤ };
+
+    fn clone(&self) -> Result<FixedVec<T, N>, AllocError> {
+        Ok(*self)
+    }
+}
