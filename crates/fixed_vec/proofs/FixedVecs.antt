@@ -1,5 +1,5 @@
 -- Vectors in an array.
-use Rattle.std.proofs.Common.{◌≡◌, ℕ, ◌<◌, Ok, Err, Result, List, [], ◌∷◌, length, set, take, ap, ◌∙◌, arith}
+use Rattle.std.proofs.Common.{◌≡◌, ℕ, ◌<◌, Ok, Err, Result, List, [], ◌∷◌, length, ap, ◌∙◌, arith}
 use Rattle.std.proofs.Math.Seq.{take-set-lt}
 use Rattle.fixed_vec.specs.declared.Full.{Full}
 use Rattle.fixed_vec.specs.FixedVec.{Added}

@@ -1,36 +1,39 @@
--- The operators of an array.
-use Rattle.std.proofs.Common.{◌≡◌, ℕ, ◌+◌, ◌<◌, ◌≤◌, Bool, List, [], ◌∷◌, ◌++◌, length, get_or, take, set, sym, ap, ◌∙◌, arith}
-use Rattle.std.proofs.lemmas.List.{length-map, length-take-le, get_or-map, get_or-take, get_or_past, take_more_set, map_push, map-set}
-use Rattle.terms.proofs.Lists.{take_of_set}
+-- The operators of a signature.
+use Rattle.std.proofs.Common.{◌≡◌, ℕ, suc, ◌<◌, cond, ltb, Bool, true, List, [], ◌∷◌, ◌++◌, set, length, Some, None, sym, refl, ap, ◌∙◌, subst, add-one, arith, Ok, Err, Result, ◌≤◌, OnOk, OnErr}
+use Rattle.std.proofs.lemmas.List.{map_push, map-set}
+use Rattle.std.proofs.lemmas.Iterator.Adapters.{position_from-zero}
+use Rattle.std.specs.Str.{bytes_eq}
+use Rattle.std.specs.List.{position_or_len, position_from}
+use Rattle.fixed_vec.specs.declared.Full.{Full}
+use Rattle.terms.proofs.Signatures.{declared_push}
+use Rattle.terms.specs.Signature.{Op, op_of, spelt, Declared, found_from, found}
 use Rattle.signature.specs.declared.operator.Operator.{Operator}
 use Rattle.signature.specs.declared.Signature.{Signature}
-use Rattle.signature.specs.Declaring.{sig_of}
-use Rattle.std.specs.Str.{bytes_eq}
-use Rattle.terms.specs.Signature.{Op, op_of, Declared}
 use Rattle.signature.specs.Operators.{op_from, ops_from}
-
-module _ (os : List Operator) (n : ℕ) (h : n ≤ length os) where
-  pub declared_count : length (ops_from (take n os)) ≡ n
-  declared_count = length-map (take n os) op_from ∙ length-take-le n os h
-
-  pub declared_at : (f : ℕ) (d : Operator) → f < n → op_of (ops_from (take n os)) f ≡ op_from (get_or os f d)
-  declared_at f d k = get_or-map op_from (take n os) f d _ (omega (arith, length-take-le n os h)) ∙ ap op_from (get_or-take n os f d k)
-
-  pub declared_past : (f : ℕ) → n ≤ f → op_of (ops_from (take n os)) f ≡ record { name = []; arity = 0 }
-  declared_past f k = get_or_past (ops_from (take n os)) f _ (omega (arith, declared_count))
-
-  pub declared_test : (f : ℕ) (d : Operator) (x s : List ℕ) (r : Bool) → f < n → x ≡ (op_from (get_or os f d)).name → r ≡ bytes_eq x s → bytes_eq (op_of (ops_from (take n os)) f).name s ≡ r
-  declared_test f d x s r k e q = ap (λ (o : Op). bytes_eq o.name s) (declared_at f d k) ∙ ap (λ y. bytes_eq y s) (sym e) ∙ sym q
-
-pub declared_push : (os : List Operator) (n : ℕ) (o : Operator) (new : Op) → n < length os → op_from o ≡ new → ops_from (take (n + 1) (set os n o)) ≡ ops_from (take n os) ++ new ∷ []
-declared_push os n o new h e = ap ops_from (take_more_set os n o h) ∙ map_push op_from (take n os) o ∙ ap (λ x. ops_from (take n os) ++ x ∷ []) e
-
-pub declared_set : (os : List Operator) (n f : ℕ) (o : Operator) (new : Op) → op_from o ≡ new → ops_from (take n (set os f o)) ≡ set (ops_from (take n os)) f new
-declared_set os n f o new e = ap ops_from (take_of_set n os f o) ∙ map-set op_from (take n os) f o ∙ ap (set (ops_from (take n os)) f) e
-
-pub declared_again : (os : List Operator) (n : ℕ) → n ≤ length os → (f : ℕ) (d o : Operator) (a : ℕ) → f < n → op_from o ≡ record { name = (op_from (get_or os f d)).name; arity = a } → ops_from (take n (set os f o)) ≡ set (ops_from (take n os)) f (record { name = (op_of (ops_from (take n os)) f).name; arity = a })
-declared_again os n h f d o a k e = declared_set os n f o _ (e ∙ ap (λ (x : Op). record { name = x.name; arity = a }) (sym (declared_at os n h f d k)))
+use Rattle.signature.specs.Declaring.{sig_of}
 
 -- a signature is what it must be
 pub declared : (s : Signature) → Declared (sig_of s)
-declared s = record { are_spelt = s.spelt; are_apart = s.apart; are_ranked = s.ranked }
+declared s = s.declared
+
+abbrev pub named : List ℕ → Operator → Bool
+named s o = bytes_eq (op_from o).name s
+
+-- the first operator with a name is found
+found_is : (i : ℕ) (os : List Operator) (s : List ℕ) → position_from (named s) i os ≡ found_from i (ops_from os) s
+found_is i [] s = refl
+found_is i (o ∷ os) s = ap (cond (named s o) (Some i)) (ap (λ k. position_from (named s) k os) (add-one i) ∙ found_is (suc i) os s)
+
+pub position_found : (os : List Operator) (s : List ℕ) → cond (ltb (position_or_len (named s) os) (length os)) (Some (position_or_len (named s) os)) None ≡ found (ops_from os) s
+position_found os s = position_from-zero (named s) os ∙ found_is 0 os s
+
+-- one operator more, where there is room for it
+pub declared_more :
+    (r : Result (Unit {0}) Full) (os after : List Operator) (o : Operator) (s : List ℕ) → OnOk r (after ≡ os ++ o ∷ []) → OnErr r (32 ≤ length os) → length os < 32 → op_from o ≡ record { name = s; arity = 0 } → spelt s ≡ true → found (ops_from os) s ≡ None → Declared (ops_from os)
+    → Declared (ops_from after)
+declared_more (Ok u) os after o s e f l h sp n d = subst Declared (sym (ap ops_from e ∙ map_push op_from os o ∙ ap (λ x. ops_from os ++ x ∷ []) h)) (declared_push (ops_from os) s 0 d sp n (omega arith))
+declared_more (Err u) os after o s e f l h sp n d = absurd (let z : ⊥ = omega (arith, f) in z)
+
+-- another arity
+pub set_again : (os after : List Operator) (f n : ℕ) (d o : Operator) → after ≡ set os f o → op_of (ops_from os) f ≡ op_from d → op_from o ≡ record { name = (op_from d).name; arity = n } → ops_from after ≡ set (ops_from os) f (record { name = (op_of (ops_from os) f).name; arity = n })
+set_again os after f n d o e is h = ap ops_from e ∙ map-set op_from os f o ∙ ap (set (ops_from os) f) (h ∙ ap (λ (x : Op). record { name = x.name; arity = n }) (sym is))

@@ -1,5 +1,6 @@
 -- What a signature declares, and what declaring answers.
-use Rattle.std.specs.Prelude.{◌≡◌, ℕ, ◌<◌, ◌≤◌, Bool, true, false, ◌⊎◌, List, [], ◌∷◌, ◌++◌, length, take, Some, None, Ok, Err, Result, slice_set}
+use Rattle.std.specs.Prelude.{◌≡◌, ℕ, ◌<◌, ◌≤◌, Bool, true, false, ◌⊎◌, List, [], ◌∷◌, ◌++◌, length, Some, None, Ok, Err, Result, slice_set}
+use Rattle.fixed_vec.specs.FixedVec.{items}
 use Rattle.signature.specs.declared.operator.Undeclarable.{Undeclarable}
 use Rattle.signature.specs.declared.operator.Undeclarable.TheVariants.{Misspelt, Full, Twice}
 use Rattle.signature.specs.declared.Signature.{Signature}
@@ -7,7 +8,7 @@ use Rattle.terms.specs.Signature.{Sig, op_of, spelt, found}
 use Rattle.signature.specs.Operators.{ops_from}
 
 abbrev pub sig_of : Signature → Sig
-sig_of s = ops_from (take s.len s.operators)
+sig_of s = ops_from (items s.operators)
 
 -- one operator more, without arguments as yet; or why not, and nothing changes
 abbrev pub Declares : Sig → List ℕ → Sig → Result (Unit {0}) Undeclarable → Type 0

@@ -1,11 +1,12 @@
-ghost use Rattle.std.specs.Prelude.{◌≡◌, ◌≤◌, [], length, MatchOption};
+ghost use Rattle.std.specs.Prelude.{◌≡◌, ◌<◌, ◌≤◌, [], length, MatchOption};
 ghost use Rattle.terms.specs.Signature.{op_of, found};
 ghost use Rattle.signature.specs.Operators.{op_from};
 ghost use Rattle.signature.specs.Declaring.{sig_of, Declares, Ranks};
 
 use crate::Signature;
 use crate::operator::naming::is_name;
-use crate::operator::{Name, Operator, Undeclarable};
+use crate::operator::{Operator, Undeclarable};
+use fixed_vec::FixedVec;
 
 impl Signature {
     // With no operator.
@@ -13,8 +14,7 @@ impl Signature {
         ensures { sig_of result ≡ [] }
     {
         Signature {
-            operators: [Operator::blank(); 32],
-            len: 0,
+            operators: FixedVec::new(Operator::blank()),
         }
     }
 
@@ -23,19 +23,14 @@ impl Signature {
         ensures value { result ≡ length (sig_of self.now) }
         ensures few { result ≤ 32 }
     {
-        let Signature { len, .. } = self;
-        *len
+        self.operators.len()
     }
 
     // The operator of a number, if it is declared.
     fn operator(&self, operator: u8) -> Option<&Operator>
-        ensures { MatchOption result (op_of (sig_of self.now) operator ≡ record { name = []; arity = 0 }) (λ x. (op_of (sig_of self.now) operator ≡ op_from x.now) × ((op_from x.now).arity ≤ 3)) }
+        ensures { MatchOption result (length (sig_of self.now) ≤ operator) (λ x. (operator < length (sig_of self.now)) × (op_of (sig_of self.now) operator ≡ op_from x.now) × ((op_from x.now).arity ≤ 3)) }
     {
-        let at = operator as usize;
-        if at >= self.len {
-            return None;
-        }
-        Some(&self.operators[at])
+        self.operators.get(operator as usize)
     }
 
     // The name of an operator, empty where it is not declared.
@@ -64,12 +59,11 @@ impl Signature {
     pub fn find(&self, name: &[u8]) -> Option<u8>
         ensures { result ≡ found (sig_of self.now) name.now }
     {
-        for at in 0..self.len {
-            if self.operators[at].name() == name {
-                return Some(at as u8);
-            }
-        }
-        None
+        let at = self
+            .operators
+            .iter()
+            .position(|operator| operator.name() == name)?;
+        Some(at as u8)
     }
 
     // Declares one operator more, without arguments as yet.
@@ -79,29 +73,29 @@ impl Signature {
         if !is_name(name) {
             return Err(Undeclarable::Misspelt);
         }
-        if self.len >= self.operators.len() {
+        if self.operators.len() >= 32 {
             return Err(Undeclarable::Full);
         }
-        if let Some(_) = self.find(name) {
+        if self.find(name).is_some() {
             return Err(Undeclarable::Twice);
         }
-        self.operators[self.len] = Operator::new(name, 0);
-        self.len += 1;
-        Ok(())
+        self.operators
+            .push(Operator::new(name, 0))
+            .map_err(|_| Undeclarable::Full)
     }
 
     // Gives a declared operator its arity, of three at most.
     pub fn rank(&mut self, operator: u8, arity: u8) -> bool
         ensures { Ranks (sig_of self.old) operator arity (sig_of self.new) result }
     {
-        let slot = operator as usize;
-        if slot >= self.len {
-            return false;
-        }
         if arity > 3 {
             return false;
         }
-        self.operators[slot] = self.operators[slot].ranked(arity);
+        let Some(declared) = self.operator(operator) else {
+            return false;
+        };
+        let ranked = declared.ranked(arity);
+        self.operators.set(operator as usize, ranked);
         true
     }
 }

@@ -1,14 +1,11 @@
-ghost use Rattle.std.specs.Prelude.{◌≡◌, ◌≤◌, length};
+use fixed_vec::FixedVec;
 
 pub mod naming;
 
 // A name of at most 12 bytes.
 #[derive(Clone, Copy)]
 pub struct Name {
-    bytes: [u8; 12],
-    len: usize,
-    ghost whole: { length bytes ≡ 12 },
-    ghost fits: { len ≤ 12 },
+    bytes: FixedVec<u8, 12>,
 }
 
 // A declared operator: its name, and how many arguments it takes.

@@ -1,24 +1,10 @@
 -- Looking names up, and declaring more of them.
-use Rattle.std.proofs.Common.{◌≡◌, ℕ, zero, suc, ◌+◌, ◌<◌, ◌≤◌, Bool, true, false, List, [], ◌∷◌, ◌++◌, length, drop, set, Some, None, Decides, sym, ap, ◌∙◌, subst, ⊎_elim, add-one, arith, drop-cons, rules}
+use Rattle.std.proofs.Common.{◌≡◌, ℕ, zero, suc, ◌<◌, ◌≤◌, true, List, [], ◌∷◌, ◌++◌, length, set, Some, None, sym, ap, ◌∙◌, subst, ⊎_elim, arith}
 use Rattle.std.specs.Str.{bytes_eq}
 use Rattle.std.proofs.lemmas.Slice.Eq.{bytes_eq-Decides}
-use Rattle.std.proofs.lemmas.List.{drop_all, get_or_append_left, get_or_push, get_or-set_same, get_or-set_other, length_push, length-set}
+use Rattle.std.proofs.lemmas.List.{get_or_append_left, get_or_push, get_or-set_same, get_or-set_other, length_push, length-set}
 use Rattle.std.proofs.lemmas.Bool.{cond-true, cond-false, cases_Bool, cases_eq, cases_lt, leb-true, and_parts}
-use Rattle.terms.specs.Signature.{Op, Sig, op_of, lower, all_words, spelt, Spelt, Apart, Ranked, found_from, found}
-
-pub tested : (xs ys : List ℕ) (r : Bool) → Decides r (xs ≡ ys) → r ≡ bytes_eq xs ys
-tested xs ys r h = search (rules, bytes_eq-Decides)
-
--- the loop of a search
-
-pub found_here : (sig : Sig) (s : List ℕ) (i : ℕ) → i < length sig → bytes_eq (op_of sig i).name s ≡ true → found_from i (drop i sig) s ≡ found sig s → Some i ≡ found sig s
-found_here sig s i h e is = rw (drop-cons sig i (record { name = []; arity = 0 }) h, e) at is
-
-pub found_later : (sig : Sig) (s : List ℕ) (i : ℕ) → i < length sig → bytes_eq (op_of sig i).name s ≡ false → found_from i (drop i sig) s ≡ found sig s → found_from (i + 1) (drop (i + 1) sig) s ≡ found sig s
-found_later sig s i h e is = rw add-one (rw (drop-cons sig i (record { name = []; arity = 0 }) h, e) at is)
-
-pub found_nowhere : (sig : Sig) (s : List ℕ) (i : ℕ) → length sig ≤ i → found_from i (drop i sig) s ≡ found sig s → None ≡ found sig s
-found_nowhere sig s i h is = rw (drop_all i sig h) at is
+use Rattle.terms.specs.Signature.{Op, Sig, op_of, lower, all_words, spelt, Spelt, Apart, Ranked, Declared, found_from, found}
 
 -- what is not found is no operator's name
 
@@ -63,6 +49,9 @@ apart_push sig s n a e f g h =
     (λ l. ⊎_elim (λ m. absurd (unfound_from 0 sig s e g m (sym (old g m) ∙ sym h.2 ∙ new f (omega arith)))) (λ m. omega arith) (cases_lt g (length sig)))
     (cases_lt f (length sig))
 
+pub declared_push : (sig : Sig) (s : List ℕ) (n : ℕ) → Declared sig → spelt s ≡ true → found sig s ≡ None → n ≤ 3 → Declared (more sig s n)
+declared_push sig s n d e u h = record { are_spelt = spelt_push sig s n d.are_spelt e; are_apart = apart_push sig s n d.are_apart u; are_ranked = ranked_push sig s n d.are_ranked h }
+
 -- another arity
 
 abbrev again : Sig → ℕ → ℕ → Sig
@@ -90,6 +79,9 @@ ranked_again sig f n h l a g k =
     (λ e. omega (arith, ap (λ k. (op_of (again sig f n) k).arity) e, ap (λ (o : Op). o.arity) (get_or-set_same sig f (record { name = (op_of sig f).name; arity = n }) (record { name = []; arity = 0 }) h)))
     (λ d. omega (arith, ap (λ (o : Op). o.arity) (get_or-set_other sig f g (record { name = (op_of sig f).name; arity = n }) (record { name = []; arity = 0 }) d), a g (omega arith)))
     (cases_eq g f)
+
+pub declared_again : (sig : Sig) (f n : ℕ) → f < length sig → n ≤ 3 → Declared sig → Declared (again sig f n)
+declared_again sig f n h l d = record { are_spelt = spelt_again sig f n h d.are_spelt; are_apart = apart_again sig f n h d.are_apart; are_ranked = ranked_again sig f n h l d.are_ranked }
 
 -- a name has at most 12 bytes
 pub spelt_short : (bs : List ℕ) → spelt bs ≡ true → length bs ≤ 12

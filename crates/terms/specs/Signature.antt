@@ -1,5 +1,6 @@
 -- Signatures: the declared operators, each with its name and its arity.
 use Rattle.std.specs.Prelude.{◌≡◌, ℕ, suc, ◌<◌, ◌≤◌, Bool, true, false, cond, ◌&&◌, ◌||◌, List, [], ◌∷◌, length, Some, None, Option, nat_le, slice_index_or}
+use Rattle.std.specs.List.{list_all}
 use Rattle.std.specs.Str.{bytes_eq}
 
 -- an operator: the bytes of its name, and how many arguments it takes
@@ -27,8 +28,7 @@ abbrev pub word : ℕ → Bool
 word b = lower b || digit b
 
 abbrev pub all_words : List ℕ → Bool
-all_words [] = true
-all_words (b ∷ bs) = word b && all_words bs
+all_words = list_all word
 
 -- a lower-case letter, and up to 11 more lower-case letters or digits
 abbrev pub spelt : List ℕ → Bool

@@ -5,17 +5,14 @@ ghost use Rattle.terms.specs.Laws.{UniqueText, UniqueTermText, OneAtAPlace, Read
 pub fn text_is_unique()
     ensures tickets { UniqueText }
     ensures terms { UniqueTermText }
-{
-}
+{}
 
 // At most one term stands at a place of a view.
 pub fn one_at_a_place()
     ensures { OneAtAPlace }
-{
-}
+{}
 
 // The term that stands at a place is the one that is read off there.
 pub fn what_stands_is_read_off()
     ensures { ReadOffStands }
-{
-}
+{}

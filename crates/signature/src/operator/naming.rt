@@ -3,6 +3,7 @@ ghost use Rattle.terms.specs.Signature.{lower, word, all_words, spelt};
 ghost use Rattle.signature.specs.Operators.{bytes_of, op_from};
 
 use super::{Name, Operator};
+use fixed_vec::FixedVec;
 
 impl Name {
     // No bytes at all.
@@ -10,8 +11,7 @@ impl Name {
         ensures { bytes_of result ≡ [] }
     {
         Name {
-            bytes: [0; 12],
-            len: 0,
+            bytes: FixedVec::new(0),
         }
     }
 
@@ -19,54 +19,41 @@ impl Name {
         requires { length part.now ≤ 12 }
         ensures { bytes_of result ≡ part.now }
     {
-        let len = part.len();
-        let mut bytes = [0; 12];
-        bytes[0..len].copy_from_slice(part);
-        Name { bytes, len }
+        let mut bytes = FixedVec::new(0);
+        for b in part {
+            let _ = bytes.push(*b);
+        }
+        Name { bytes }
     }
 
     pub(crate) fn as_bytes(&self) -> &[u8]
         ensures value { result.now ≡ bytes_of self.now }
         ensures short { length result.now ≤ 12 }
     {
-        &self.bytes[0..self.len]
+        self.bytes.as_slice()
     }
-}
-
-fn is_lower(b: u8) -> bool
-    ensures { result ≡ lower b }
-{
-    matches!(b, b'a'..=b'z')
 }
 
 fn is_word(b: u8) -> bool
     ensures { result ≡ word b }
 {
-    matches!(b, b'a'..=b'z' | b'0'..=b'9')
+    b.is_ascii_lowercase() || b.is_ascii_digit()
 }
 
 fn are_words(part: &[u8]) -> bool
     ensures { result ≡ all_words part.now }
 {
-    for b in part {
-        if !is_word(*b) {
-            return false;
-        }
-    }
-    true
+    part.iter().all(|b| is_word(*b))
 }
 
 // Whether a part is spelt as a name.
 pub fn is_name(part: &[u8]) -> bool
     ensures { result ≡ spelt part.now }
 {
-    let [first, rest @ ..] = part else {
-        return false;
-    };
-    if !is_lower(*first) || rest.len() > 11 {
-        return false;
+    match part {
+        [first, rest @ ..] => first.is_ascii_lowercase() && rest.len() <= 11 && are_words(rest),
+        [] => false,
     }
-    are_words(rest)
 }
 
 impl Operator {
@@ -107,9 +94,6 @@ impl Operator {
     pub(crate) fn ranked(&self, arity: u8) -> Operator
         ensures { op_from result ≡ record { name = (op_from self.now).name; arity = arity } }
     {
-        Operator {
-            name: self.name,
-            arity,
-        }
+        Operator { arity, ..*self }
     }
 }

@@ -44,14 +44,17 @@ impl<const N: usize> Layout<N> {
             next: Some(next),
             ..node
         };
-        self.nodes.set(usize::from(place), linked);
+        self.nodes.set(place as usize, linked);
     }
 
     // The node at a place, vacant where none is in use.
     fn node(&self, place: u16) -> Node
         ensures { result ≡ slice_index_or (in_use self.now) place vacant }
     {
-        self.nodes.get(usize::from(place)).copied().unwrap_or(Node::VACANT)
+        self.nodes
+            .get(place as usize)
+            .copied()
+            .unwrap_or(Node::VACANT)
     }
 
     // So many siblings along from a link.

@@ -1,20 +1,21 @@
-use Rattle.std.proofs.Common.{◌∙◌, arith}
+use Rattle.std.proofs.Common.{◌≡◌, ◌∙◌, sym, rules, tests}
+use Rattle.std.proofs.lemmas.Iterator.{YieldsList-from_slice}
+use Rattle.std.proofs.lemmas.Iterator.Search.{position_from_yields_List}
+use Rattle.fixed_vec.specs.FixedVec.{items}
+use Rattle.terms.specs.Signature.{found}
 use Rattle.signature.specs.Declaring.{sig_of}
-use Rattle.signature.proofs.Operators.{declared_count, declared_test}
-use Rattle.terms.proofs.Signatures.{found_here, found_later, found_nowhere}
+use Rattle.signature.proofs.Operators.{named, position_found}
 use Rattle.signature.proofs.Signature.find.Goals as goal
+use Rattle.signature.proofs.Signature.find.Goals.{After-position}
 
-pub returns-then-eq : goal.returns-then-eq
-returns-then-eq c =
-    let s = c.args.self.now in
-    let test = declared_test s.operators s.len (omega arith) c.loop-at.at _ c.name.result.now c.args.name.now c.eq.result (omega arith) c.name.ensures.value c.eq.ensures in
-    found_here (sig_of s) c.args.name.now c.loop-at.at (omega (arith, declared_count s.operators s.len (omega arith))) (test ∙ c.if-eq.true) c.loop-at.invariant
+-- what `position` answers is what is found
+answered : (c : After-position) → c.position.result ≡ found (sig_of c.args.self.now) c.args.name.now
+answered c =
+    position_from_yields_List (named c.args.name.now) _ _ _ c.position.ensures.ran (YieldsList-from_slice (items c.args.self.now.operators) cc) (λ x b q k. search (rules, tests))
+    ∙ position_found (items c.args.self.now.operators) c.args.name.now
 
-pub loop-at-preserved : goal.loop-at-preserved
-loop-at-preserved c =
-    let s = c.args.self.now in
-    let test = declared_test s.operators s.len (omega arith) c.loop-at.at _ c.name.result.now c.args.name.now c.eq.result (omega arith) c.name.ensures.value c.eq.ensures in
-    found_later (sig_of s) c.args.name.now c.loop-at.at (omega (arith, declared_count s.operators s.len (omega arith))) (test ∙ c.if-eq.false) c.loop-at.invariant
+pub returns-in_err-at : goal.returns-in_err-at
+returns-in_err-at c = c.from_residual.ensures ∙ sym c.in_err-at.was ∙ answered c.before.before.before
 
 pub returns : goal.returns
-returns c = let s = c.args.self.now in found_nowhere (sig_of s) c.args.name.now c.loop-at.at (omega (arith, declared_count s.operators s.len (omega arith))) c.loop-at.invariant
+returns c = sym c.in_ok-at.was ∙ answered c.before.before
