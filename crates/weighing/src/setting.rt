@@ -1,18 +1,9 @@
 ghost use Rattle.std.specs.Prelude.{◌≡◌, ℕ, suc, ◌≤◌, Some, None};
-ghost use Rattle.weighing.specs.Factor.{Factor, Decided};
+ghost use Rattle.weighing.specs.Factor.{Factor};
 ghost use Rattle.weighing.specs.Weighing.{entry_of, value_at, Missing, PutsBase, PutsFactor, times};
 
-use crate::{Row, Weighing};
-
-// Whether a factor is '-' or from 1 to 4.
-fn is_factor(factor: Option<u8>) -> bool
-    ensures { Decided (Factor factor) result }
-{
-    match factor {
-        Some(k) => matches!(k, 1..=4),
-        None => true,
-    }
-}
+use crate::bounded::{Base, Factor};
+use crate::{Row, Unweighable, Weighing};
 
 impl Weighing {
     // A missing weighing: base 0 and factor 1 everywhere.
@@ -31,48 +22,45 @@ impl Weighing {
         *self = Weighing::missing();
     }
 
-    // Gives an operator its base, of 100 at most, and says whether it did.
-    pub fn set_base(&mut self, operator: u8, base: u8) -> bool
+    // Gives an operator its base, of 100 at most.
+    #[tactic(auto, using(std::proofs::lemmas::Grind::common_steps, crate::proofs::Rows::values_rebased))]
+    pub fn set_base(&mut self, operator: u8, base: u8) -> Result<(), Unweighable>
         ensures { PutsBase self.old operator base self.new result }
     {
-        let at = operator as usize;
-        if at >= self.rows.len() {
-            return false;
-        }
-        if base > 100 {
-            return false;
-        }
-        self.rows[at] = self.rows[at].with_base(base);
-        true
+        let at = usize::from(operator);
+        let row = *self.rows.get(at).ok_or(Unweighable::PastOperators)?;
+        let base = Base::try_from(base)?;
+        self.rows[at] = Row { base, ..row };
+        Ok(())
     }
 
-    // Gives an operator the factor of an argument, '-' or from 1 to 4, and says whether it did.
-    pub fn set_factor(&mut self, operator: u8, argument: usize, factor: Option<u8>) -> bool
+    // Gives an operator the factor of an argument, '-' or from 1 to 4.
+    #[tactic(auto, using(std::proofs::lemmas::Grind::common_steps, crate::proofs::Rows::values_refactored, crate::proofs::Rows::factor_written))]
+    pub fn set_factor(
+        &mut self,
+        operator: u8,
+        argument: usize,
+        factor: Option<u8>,
+    ) -> Result<(), Unweighable>
         ensures { PutsFactor self.old operator argument factor self.new result }
     {
-        let at = operator as usize;
-        if at >= self.rows.len() {
-            return false;
-        }
-        if argument >= 3 {
-            return false;
-        }
-        if !is_factor(factor) {
-            return false;
-        }
-        self.rows[at] = self.rows[at].with_factor(argument, factor);
-        true
+        let at = usize::from(operator);
+        let mut row = *self.rows.get(at).ok_or(Unweighable::PastOperators)?;
+        row.factors.get(argument).ok_or(Unweighable::PastArguments)?;
+        // Written by index: after `get_mut` nothing is known of the other factors.
+        row.factors[argument] = factor.map(Factor::try_from).transpose()?;
+        self.rows[at] = row;
+        Ok(())
     }
 
     // The row of an operator, a neutral one past the last.
     fn row(&self, operator: u8) -> Row
         ensures { (line : ℕ) → entry_of result line ≡ value_at self.now line operator }
     {
-        let at = operator as usize;
-        if at >= self.rows.len() {
-            return Row::neutral();
-        }
-        self.rows[at]
+        self.rows
+            .get(usize::from(operator))
+            .copied()
+            .unwrap_or_else(Row::neutral)
     }
 
     // The base of an operator, 0 past the last.
@@ -80,7 +68,7 @@ impl Weighing {
         ensures value { Some result ≡ value_at self.now 0 operator }
         ensures low { result ≤ 100 }
     {
-        self.row(operator).base()
+        u8::from(self.row(operator).base)
     }
 
     // The factor of an argument as it is written, '-' as nothing; 1 past the last operator and past the third argument.
@@ -89,7 +77,7 @@ impl Weighing {
         ensures within { Factor result }
         ensures past { 3 ≤ argument → result ≡ Some 1 }
     {
-        self.row(operator).factor(argument)
+        self.row(operator).factor(argument).map(u8::from)
     }
 
     // What the factor of an argument multiplies by.
@@ -98,9 +86,6 @@ impl Weighing {
         ensures least { 1 ≤ result }
         ensures most { result ≤ 4 }
     {
-        match self.written_factor(operator, argument) {
-            Some(k) => k,
-            None => 1,
-        }
+        self.written_factor(operator, argument).unwrap_or(1)
     }
 }
