@@ -1,4 +1,4 @@
-ghost use Rattle.std.specs.Prelude.{◌≡◌, [], ◌∷◌, ◌++◌, ◌≤◌, length, OnOk, OnErr, slice_set};
+ghost use Rattle.std.specs.Prelude.{◌≡◌, [], ◌∷◌, ◌++◌, ◌≤◌, length, OnOk, OnErr, slice_set, nat_le};
 ghost use Rattle.fixed_vec.specs.FixedVec.{items, content, Added, Removed, Popped};
 
 use crate::{FixedVec, Full};
@@ -22,7 +22,7 @@ impl<T: Copy, const N: usize> FixedVec<T, N> {
         ensures full { OnErr result (N ≤ length (items self.old)) }
         ensures kept { OnErr result (self.new ≡ self.old) }
     {
-        if self.len >= N {
+        if self.is_full() {
             return Err(Full);
         }
         self.slots[self.len] = item;
@@ -67,13 +67,19 @@ impl<T: Copy, const N: usize> FixedVec<T, N> {
         self.as_slice().len()
     }
 
+    // Whether there is no room for one more item.
+    pub fn is_full(&self) -> bool
+        ensures { result ≡ nat_le N (length (items self.now)) }
+    {
+        self.len >= N
+    }
+
     // The items in order.
     pub fn as_slice(&self) -> &[T]
         ensures value { result.now ≡ items self.now }
         ensures few { length result.now ≤ N }
     {
-        let all = &self.slots[..];
-        &all[0..self.len]
+        &self.slots[..self.len]
     }
 }
 

@@ -5,7 +5,7 @@ ghost use Rattle.signature.specs.Declaring.{sig_of, Declares, Ranks};
 
 use crate::Signature;
 use crate::operator::naming::is_name;
-use crate::operator::{Operator, Undeclarable};
+use crate::operator::{Operator, Undeclarable, Unrankable};
 use fixed_vec::FixedVec;
 
 impl Signature {
@@ -14,7 +14,7 @@ impl Signature {
         ensures { sig_of result ≡ [] }
     {
         Signature {
-            operators: FixedVec::new(Operator::blank()),
+            operators: FixedVec::new(Operator::new(&[], 0)),
         }
     }
 
@@ -73,7 +73,7 @@ impl Signature {
         if !is_name(name) {
             return Err(Undeclarable::Misspelt);
         }
-        if self.operators.len() >= 32 {
+        if self.operators.is_full() {
             return Err(Undeclarable::Full);
         }
         if self.find(name).is_some() {
@@ -85,17 +85,17 @@ impl Signature {
     }
 
     // Gives a declared operator its arity, of three at most.
-    pub fn rank(&mut self, operator: u8, arity: u8) -> bool
+    pub fn rank(&mut self, operator: u8, arity: u8) -> Result<(), Unrankable>
         ensures { Ranks (sig_of self.old) operator arity (sig_of self.new) result }
     {
-        if arity > 3 {
-            return false;
-        }
         let Some(declared) = self.operator(operator) else {
-            return false;
+            return Err(Unrankable::Undeclared);
         };
+        if arity > 3 {
+            return Err(Unrankable::PastThree);
+        }
         let ranked = declared.ranked(arity);
         self.operators.set(operator as usize, ranked);
-        true
+        Ok(())
     }
 }

@@ -15,8 +15,17 @@ pub struct Operator {
     arity: u8,
 }
 
+// Why an operator gets no other arity.
+#[derive(Clone, Copy, PartialEq, Eq, Debug)]
+pub enum Unrankable {
+    // it is not declared
+    Undeclared,
+    // the arity is more than three
+    PastThree,
+}
+
 // Why a name is not declared.
-#[derive(Clone, Copy, PartialEq, Eq)]
+#[derive(Clone, Copy, PartialEq, Eq, Debug)]
 pub enum Undeclarable {
     // it is no name
     Misspelt,

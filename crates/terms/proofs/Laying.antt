@@ -7,7 +7,7 @@ use Rattle.terms.specs.Term.{Term, variable, instrument, apply, Terms, nil, cons
 use Rattle.terms.specs.Signature.{Sig, Declared}
 use Rattle.terms.specs.Ticket.{Ticket, Tickets}
 use Rattle.terms.specs.View.{Stands, StandFrom}
-use Rattle.terms.specs.Nodes.{vacant, told, along, node_answers, start, laid, laid_row}
+use Rattle.terms.specs.Nodes.{vacant, along, node_answers, start, laid, laid_row}
 use Rattle.terms.proofs.Nodes.{argument_within, argument_past}
 
 -- as many nodes as symbols
@@ -80,11 +80,11 @@ next_at ns i l t (pre, post, e, h) =
 
 mutual
   pub stands_laid : (ns : List Node) (i : ℕ) (l : Option ℕ) (t : Term) → Narrow t → At ns i (laid i l t) → Stands (node_answers ns) i t
-  stands_laid ns i l (variable x) h a = let e = node_at ns i _ [] a in (ap (λ (n : Node). told n.symbol) e, ap (λ (n : Node). n.first) e)
-  stands_laid ns i l (instrument x) h a = let e = node_at ns i _ [] a in (ap (λ (n : Node). told n.symbol) e, ap (λ (n : Node). n.first) e)
+  stands_laid ns i l (variable x) h a = let e = node_at ns i _ [] a in (ap (λ (n : Node). n.symbol) e, ap (λ (n : Node). n.first) e)
+  stands_laid ns i l (instrument x) h a = let e = node_at ns i _ [] a in (ap (λ (n : Node). n.symbol) e, ap (λ (n : Node). n.first) e)
   stands_laid ns i l (apply f ts) h a =
       let e = node_at ns i _ (laid_row (suc i) ts) a in
-      (ap (λ (n : Node). told n.symbol) e, row_laid ns i 0 (suc i) ts h.1 (omega (arith, h.0)) (ap (λ (n : Node). n.first) e) (at_tail ns i _ (laid_row (suc i) ts) a))
+      (ap (λ (n : Node). n.symbol) e, row_laid ns i 0 (suc i) ts h.1 (omega (arith, h.0)) (ap (λ (n : Node). n.first) e) (at_tail ns i _ (laid_row (suc i) ts) a))
 
   row_laid : (ns : List Node) (p k j : ℕ) (ts : Terms) → AllNarrow ts → k + how_many ts ≤ 3 → along ns (get_or ns p vacant).first k ≡ start j ts → At ns j (laid_row j ts) → StandFrom (node_answers ns) p k ts
   row_laid ns p k j nil h few e a = ⊎_elim (λ (m : k < 3). argument_within ns p k m ∙ e) (λ (m : 3 ≤ k). argument_past ns p k m) (cases_lt k 3)

@@ -1,7 +1,7 @@
 -- Terms that stand at the places of a view.
 use Rattle.std.proofs.Common.{◌≡◌, ℕ, suc, ◌+◌, ◌%◌, Some, None, Option, refl, ap, subst, arith}
 use Rattle.terms.specs.declared.symbol.Symbol.{Symbol}
-use Rattle.terms.specs.declared.symbol.Symbol.TheVariants.{Vacant, Variable, Instrument, Operator}
+use Rattle.terms.specs.declared.symbol.Symbol.TheVariants.{Variable, Instrument, Operator}
 use Rattle.terms.specs.Term.{Term, variable, instrument, apply, Terms, nil, cons}
 use Rattle.terms.specs.Substitution.{fill_all, renamed}
 use Rattle.terms.specs.View.{Answers, Stands, StandFrom, renamed_symbol, renamed_answers}
@@ -53,21 +53,18 @@ mutual
 -- and no others
 before_variable : (o : Option Symbol) (y : ℕ) → renamed_symbol o ≡ Some (Variable y) → (x : ℕ) × (o ≡ Some (Variable x)) × (y ≡ (x + 8) % 16)
 before_variable None y e = absurd (let z : ◌≡◌ {A = ℕ} 0 1 = cc in omega arith)
-before_variable (Some Vacant) y e = absurd (let z : ◌≡◌ {A = ℕ} 0 1 = cc in omega arith)
 before_variable (Some (Variable x)) y e = (x, refl, cc)
 before_variable (Some (Instrument n)) y e = absurd (let z : ◌≡◌ {A = ℕ} 0 1 = cc in omega arith)
 before_variable (Some (Operator f)) y e = absurd (let z : ◌≡◌ {A = ℕ} 0 1 = cc in omega arith)
 
 before_instrument : (o : Option Symbol) (n : ℕ) → renamed_symbol o ≡ Some (Instrument n) → o ≡ Some (Instrument n)
 before_instrument None n e = e
-before_instrument (Some Vacant) n e = e
 before_instrument (Some (Variable x)) n e = absurd (let z : ◌≡◌ {A = ℕ} 0 1 = cc in omega arith)
 before_instrument (Some (Instrument m)) n e = e
 before_instrument (Some (Operator f)) n e = e
 
 before_operator : (o : Option Symbol) (f : ℕ) → renamed_symbol o ≡ Some (Operator f) → o ≡ Some (Operator f)
 before_operator None f e = e
-before_operator (Some Vacant) f e = e
 before_operator (Some (Variable x)) f e = absurd (let z : ◌≡◌ {A = ℕ} 0 1 = cc in omega arith)
 before_operator (Some (Instrument m)) f e = e
 before_operator (Some (Operator g)) f e = e

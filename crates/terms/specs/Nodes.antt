@@ -1,20 +1,12 @@
 -- Terms in nodes: each node has its symbol, the place of its first argument and the place of its next sibling.
 use Rattle.std.specs.Prelude.{ℕ, zero, suc, ◌+◌, cond, List, [], ◌∷◌, ◌++◌, Some, None, Option, nat_lt, slice_index_or, slice_set}
-use Rattle.terms.specs.declared.symbol.Symbol.{Symbol}
-use Rattle.terms.specs.declared.symbol.Symbol.TheVariants.{Vacant, Variable, Instrument, Operator}
+use Rattle.terms.specs.declared.symbol.Symbol.TheVariants.{Variable, Instrument, Operator}
 use Rattle.terms.specs.declared.node.Node.{Node}
 use Rattle.terms.specs.Term.{Term, variable, instrument, apply, Terms, nil, cons, symbols}
 use Rattle.terms.specs.View.{Answers}
 
 abbrev pub vacant : Node
-vacant = record { symbol = Vacant; first = None; next = None }
-
--- what a symbol tells: a vacant node holds nothing
-abbrev pub told : Symbol → Option Symbol
-told Vacant = None
-told (Variable x) = Some (Variable x)
-told (Instrument n) = Some (Instrument n)
-told (Operator f) = Some (Operator f)
+vacant = record { symbol = None; first = None; next = None }
 
 -- so many siblings along from a link
 abbrev pub along : List Node → Option ℕ → ℕ → Option ℕ
@@ -24,7 +16,7 @@ along ns (Some q) (suc n) = along ns (slice_index_or ns q vacant).next n
 
 -- what nodes answer as a view
 abbrev pub node_answers : List Node → Answers
-node_answers ns = record { symbol = λ p. told (slice_index_or ns p vacant).symbol; argument = λ p n. cond (nat_lt n 3) (along ns (slice_index_or ns p vacant).first n) None }
+node_answers ns = record { symbol = λ p. (slice_index_or ns p vacant).symbol; argument = λ p n. cond (nat_lt n 3) (along ns (slice_index_or ns p vacant).first n) None }
 
 -- the place of the first term of a row that begins at i, if it has one
 abbrev pub start : ℕ → Terms → Option ℕ
@@ -34,9 +26,9 @@ start i (cons t ts) = Some i
 -- the nodes of a term in reading order, from the place i on; the next sibling of its root is at l
 abbrev mutual
   pub laid : ℕ → Option ℕ → Term → List Node
-  laid i l (variable x) = record { symbol = Variable x; first = None; next = l } ∷ []
-  laid i l (instrument n) = record { symbol = Instrument n; first = None; next = l } ∷ []
-  laid i l (apply f ts) = record { symbol = Operator f; first = start (suc i) ts; next = l } ∷ laid_row (suc i) ts
+  laid i l (variable x) = record { symbol = Some (Variable x); first = None; next = l } ∷ []
+  laid i l (instrument n) = record { symbol = Some (Instrument n); first = None; next = l } ∷ []
+  laid i l (apply f ts) = record { symbol = Some (Operator f); first = start (suc i) ts; next = l } ∷ laid_row (suc i) ts
 
   pub laid_row : ℕ → Terms → List Node
   laid_row i nil = []

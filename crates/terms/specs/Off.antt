@@ -1,14 +1,13 @@
 -- The term that a view spells at a place, read off by following its answers.
 use Rattle.std.specs.Prelude.{ℕ, zero, suc, Some, None, Option}
 use Rattle.terms.specs.declared.symbol.Symbol.{Symbol}
-use Rattle.terms.specs.declared.symbol.Symbol.TheVariants.{Vacant, Variable, Instrument, Operator}
+use Rattle.terms.specs.declared.symbol.Symbol.TheVariants.{Variable, Instrument, Operator}
 use Rattle.terms.specs.Term.{Term, variable, instrument, apply, Terms, nil, cons}
 use Rattle.terms.specs.View.{Answers}
 
 -- the term with this symbol over these arguments; where nothing stands, the instrument 1 stands in
 abbrev pub term_with : Option Symbol → Terms → Term
 term_with None ts = instrument 1
-term_with (Some Vacant) ts = instrument 1
 term_with (Some (Variable x)) ts = variable x
 term_with (Some (Instrument m)) ts = instrument m
 term_with (Some (Operator f)) ts = apply f ts

@@ -1,7 +1,7 @@
 -- What a term view says: the symbol at a place, the place of each argument, and so the term that stands there.
 use Rattle.std.specs.Prelude.{◌≡◌, ℕ, suc, ◌+◌, ◌%◌, Some, None, Option}
 use Rattle.terms.specs.declared.symbol.Symbol.{Symbol}
-use Rattle.terms.specs.declared.symbol.Symbol.TheVariants.{Vacant, Variable, Instrument, Operator}
+use Rattle.terms.specs.declared.symbol.Symbol.TheVariants.{Variable, Instrument, Operator}
 use Rattle.terms.specs.Term.{Term, variable, instrument, apply, Terms, nil, cons}
 
 -- the answers of a view
@@ -24,7 +24,6 @@ abbrev mutual
 -- a symbol with its variable renamed
 abbrev pub renamed_symbol : Option Symbol → Option Symbol
 renamed_symbol None = None
-renamed_symbol (Some Vacant) = Some Vacant
 renamed_symbol (Some (Variable x)) = Some (Variable ((x + 8) % 16))
 renamed_symbol (Some (Instrument n)) = Some (Instrument n)
 renamed_symbol (Some (Operator f)) = Some (Operator f)

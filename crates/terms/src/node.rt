@@ -1,16 +1,16 @@
 use crate::symbol::Symbol;
 
-// A symbol, the place of its first argument and the place of its next sibling. The node of zeros is vacant.
+// A symbol, the place of its first argument and the place of its next sibling. A vacant node has none of them.
 #[derive(Clone, Copy)]
 pub struct Node {
-    pub symbol: Symbol,
+    pub symbol: Option<Symbol>,
     pub first: Option<u16>,
     pub next: Option<u16>,
 }
 
 impl Node {
     pub const VACANT: Node = Node {
-        symbol: Symbol::Vacant,
+        symbol: None,
         first: None,
         next: None,
     };

@@ -1,4 +1,4 @@
-ghost use Rattle.std.specs.Prelude.{◌≡◌, ℕ};
+ghost use Rattle.std.specs.Prelude.{◌≡◌, ℕ, Some};
 ghost use Rattle.terms.specs.View.{Answers, renamed_symbol, renamed_answers};
 ghost use Rattle.terms.specs.Laws.{RenamedStand};
 
@@ -21,12 +21,15 @@ impl<'v, V: TermView> Renamed<'v, V> {
     }
 }
 
-fn rename(symbol: Option<Symbol>) -> Option<Symbol>
-    ensures { result ≡ renamed_symbol symbol }
-{
-    match symbol {
-        Some(Symbol::Variable(x)) => Some(Symbol::Variable((x % 16 + 8) % 16)),
-        other => other,
+impl Symbol {
+    // With its variable, if it is one, counted eight higher modulo 16.
+    fn renamed(self) -> Symbol
+        ensures { Some result ≡ renamed_symbol (Some self) }
+    {
+        match self {
+            Symbol::Variable(x) => Symbol::Variable((x % 16 + 8) % 16),
+            other => other,
+        }
     }
 }
 
@@ -34,7 +37,7 @@ impl<'v, V: TermView> TermView for Renamed<'v, V> {
     ghost answers = { λ s. renamed_answers (V.TermView.answers s.inner.now) };
 
     fn symbol(&self, place: u16) -> Option<Symbol> {
-        rename(self.inner.symbol(place))
+        self.inner.symbol(place).map(|symbol| symbol.renamed())
     }
 
     fn argument(&self, place: u16, n: usize) -> Option<u16> {

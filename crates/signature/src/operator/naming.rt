@@ -6,15 +6,6 @@ use super::{Name, Operator};
 use fixed_vec::FixedVec;
 
 impl Name {
-    // No bytes at all.
-    pub(crate) fn blank() -> Name
-        ensures { bytes_of result ≡ [] }
-    {
-        Name {
-            bytes: FixedVec::new(0),
-        }
-    }
-
     pub(crate) fn new(part: &[u8]) -> Name
         requires { length part.now ≤ 12 }
         ensures { bytes_of result ≡ part.now }
@@ -57,16 +48,6 @@ pub fn is_name(part: &[u8]) -> bool
 }
 
 impl Operator {
-    // Without a name and without arguments.
-    pub(crate) fn blank() -> Operator
-        ensures { op_from result ≡ record { name = []; arity = 0 } }
-    {
-        Operator {
-            name: Name::blank(),
-            arity: 0,
-        }
-    }
-
     pub(crate) fn new(name: &[u8], arity: u8) -> Operator
         requires { length name.now ≤ 12 }
         ensures { op_from result ≡ record { name = name.now; arity = arity } }

@@ -1,5 +1,5 @@
 ghost use Rattle.std.specs.Prelude.{◌≡◌, ℕ, ◌<◌, ◌≤◌, List, [], ◌∷◌, ◌++◌, length, slice_index_or};
-ghost use Rattle.terms.specs.Nodes.{vacant, told, along, node_answers, with_next};
+ghost use Rattle.terms.specs.Nodes.{vacant, along, node_answers, with_next};
 ghost use Rattle.terms.specs.Layout.{in_use, Pushed};
 
 use super::Layout;
@@ -74,10 +74,7 @@ impl<const N: usize> TermView for Layout<N> {
     ghost answers = { λ s. node_answers (in_use s) };
 
     fn symbol(&self, place: u16) -> Option<Symbol> {
-        match self.node(place).symbol {
-            Symbol::Vacant => None,
-            other => Some(other),
-        }
+        self.node(place).symbol
     }
 
     fn argument(&self, place: u16, n: usize) -> Option<u16> {
