@@ -8,7 +8,7 @@ use Rattle.reading.specs.declared.token.At.{At}
 use Rattle.reading.specs.declared.token.Mark.TheVariants.{Opening, Closing, Comma}
 use Rattle.reading.specs.declared.fault.TextFault.{TextFault}
 use Rattle.reading.specs.Tokens.{Tok, a_name, a_mark, tokens, past}
-use Rattle.reading.specs.Reading.{Context, within, State, wants, opens, has, and_then, named, with_name, with_number, chain}
+use Rattle.reading.specs.Reading.{Context, within, State, wants, opens, has, and_then, named, with_name, with_number, chain, step}
 use Rattle.reading.specs.Laws.{further_arguments, arguments_so_far}
 use Rattle.reading.proofs.Digits.{numbered_decimal}
 use Rattle.reading.proofs.Names.{found_name}
@@ -35,27 +35,27 @@ abbrev Reads : Sig → List Tok → Term → Type 0
 Reads sig ks t = (k : Context) (at : At) → (m : Option At) × (reach sig (wants k) at ks ≡ Ok (has t m k))
 
 -- a run comes to the last of these arguments of f, with n to follow
-abbrev pub Leads : Result State TextFault → ℕ → At → ℕ → Context → Terms → Type 0
-Leads r f a n k ts = (us : Terms) × (u : Term) × (m : Option At) × (and_then us u ≡ ts) × (r ≡ Ok (has u m (within f a us n k)))
+abbrev pub ComesTo : {E : Type 0} → Result State E → ℕ → At → ℕ → Context → Terms → Type 0
+ComesTo r f a n k ts = (us : Terms) × (u : Term) × (m : Option At) × (and_then us u ≡ ts) × (r ≡ Ok (has u m (within f a us n k)))
 
 -- further arguments are read on
 abbrev Further : Sig → Terms → Type 0
 Further sig ts = (us : Terms) (u : Term) (m : Option At) (f : ℕ) (a : At) (n j : ℕ) (k : Context) (at : At) → n ≡ how_many ts + j
-    → Leads (reach sig (has u m (within f a us n k)) at (further_arguments sig ts)) f a j k (join us (cons u ts))
+    → ComesTo (reach sig (has u m (within f a us n k)) at (further_arguments sig ts)) f a j k (join us (cons u ts))
 
 -- an argument and further ones
 leads_row : (sig : Sig) (t : Term) (ts : Terms) → Reads sig (tokens (text_of sig t)) t → Further sig ts → (us : Terms) (f : ℕ) (a : At) (n j : ℕ) (k : Context) (at : At) → n ≡ how_many ts + j
-    → Leads (reach sig (wants (within f a us n k)) at (tokens (text_of sig t) ++ further_arguments sig ts)) f a j k (join us (cons t ts))
+    → ComesTo (reach sig (wants (within f a us n k)) at (tokens (text_of sig t) ++ further_arguments sig ts)) f a j k (join us (cons t ts))
 leads_row sig t ts h g us f a n j k at e =
     let (m, p) = h (within f a us n k) at in
     let (vs, v, l, q, r) = g us t m f a n j k (passed at (tokens (text_of sig t))) e in
-    (vs, v, l, q, reach_join sig (wants (within f a us n k)) at (tokens (text_of sig t)) (further_arguments sig ts) (has t m (within f a us n k)) (has v l (within f a vs j k)) p r)
+    (vs, v, l, q, reach_join (step sig) (wants (within f a us n k)) at (tokens (text_of sig t)) (further_arguments sig ts) (has t m (within f a us n k)) (has v l (within f a vs j k)) p r)
 
 -- behind all arguments, the closing parenthesis
-closes : (sig : Sig) (s : State) (at : At) (ks : List Tok) (f : ℕ) (a : At) (k : Context) (ts : Terms) → Leads (reach sig s at ks) f a 0 k ts → (m : Option At) × (reach sig s at (ks ++ (a_mark Closing ∷ [])) ≡ Ok (has (apply f ts) m k))
+closes : (sig : Sig) (s : State) (at : At) (ks : List Tok) (f : ℕ) (a : At) (k : Context) (ts : Terms) → ComesTo (reach sig s at ks) f a 0 k ts → (m : Option At) × (reach sig s at (ks ++ (a_mark Closing ∷ [])) ≡ Ok (has (apply f ts) m k))
 closes sig s at ks f a k ts h =
     let (us, u, m, e, q) = h in
-    (None, reach_join sig s at ks (a_mark Closing ∷ []) (has u m (within f a us 0 k)) (has (apply f ts) None k) q (ap (λ l. Ok (has (apply f l) None k)) e))
+    (None, reach_join (step sig) s at ks (a_mark Closing ∷ []) (has u m (within f a us 0 k)) (has (apply f ts) None k) q (ap (λ l. Ok (has (apply f l) None k)) e))
 
 module _ {sig : Sig} (good : Declared sig) where
   pub name_step : (f : ℕ) → f < length sig → (k : Context) (at : At) → with_name sig (found sig (op_of sig f).name) at k ≡ Ok (named f (op_of sig f).arity at k)
@@ -90,5 +90,5 @@ module _ {sig : Sig} (good : Declared sig) where
         (vs, v, l, q ∙ join_then us u (cons t ts), r)
 
   -- an operator's first arguments, with j to follow
-  pub leads_arguments : (t : Term) (ts : Terms) → Tickets sig (cons t ts) → (f : ℕ) (a : At) (n j : ℕ) (k : Context) (at : At) → n ≡ how_many ts + j → Leads (reach sig (opens f a n k) at (arguments_so_far sig (cons t ts))) f a j k (cons t ts)
+  pub leads_arguments : (t : Term) (ts : Terms) → Tickets sig (cons t ts) → (f : ℕ) (a : At) (n j : ℕ) (k : Context) (at : At) → n ≡ how_many ts + j → ComesTo (reach sig (opens f a n k) at (arguments_so_far sig (cons t ts))) f a j k (cons t ts)
   leads_arguments t ts h f a n j k at e = leads_row sig t ts (reads t h.0) (reads_further ts h.1) nil f a n j k (past at (a_mark Opening)) e

@@ -143,6 +143,6 @@ module _ {sig : Sig} (good : Declared sig) where
   gives_end (has t m top) at h = tt
   gives_end (has t m (within f a ts n k)) at h = unexpected_end (has t m (within f a ts n k)) at h refl
 
-  pub gives : (s : State) (at : At) (w : Wrong) (f : TextFault) → There sig s at → Refuses sig s at w f → Chosen sig (state_tokens sig s) w f
+  pub gives : (s : State) (at : At) (w : Wrong) (f : TextFault) → There sig s at → Refuses (step sig) ending s at w f → Chosen sig (state_tokens sig s) w f
   gives s at None f h e = subst (Gives sig s None) e (gives_end s at h)
   gives s at (Some k) f h e = subst (Gives sig s (Some k)) e (gives_step s at k h)

@@ -14,7 +14,7 @@ use Rattle.reading.specs.Laws.{Wrong, ShowsCount, needless_opening, missing_open
 use Rattle.reading.proofs.Lexing.{tokens_term}
 use Rattle.reading.proofs.Equal.{not_both, same_ok}
 use Rattle.reading.proofs.Running.{reach, passed, reach_split, reach_first}
-use Rattle.reading.proofs.Back.{Leads, name_step, leads_arguments}
+use Rattle.reading.proofs.Back.{ComesTo, name_step, leads_arguments}
 use Rattle.reading.proofs.States.{name_of, awaiting, stack_tokens, state_tokens, arguments_then, many_then, tickets_then, Frame, Good}
 
 -- the place of the inmost operator, if an argument is missing
@@ -65,7 +65,7 @@ counted_there v s w x r c p q e = subst (λ y. Counted y w) (same_ok (sym p ∙ 
 
 -- and what holds behind any arguments
 counted_behind : (f : ℕ) (a : At) (j : ℕ) (k : Context) (ts : Terms) (s : State) (w x : Wrong) (r : Result State TextFault)
-    → ((us : Terms) (u : Term) (m : Option At) → Counted (has u m (within f a us j k)) x) → Leads r f a j k ts → r ≡ Ok s → w ≡ x → Counted s w
+    → ((us : Terms) (u : Term) (m : Option At) → Counted (has u m (within f a us j k)) x) → ComesTo r f a j k ts → r ≡ Ok s → w ≡ x → Counted s w
 counted_behind f a j k ts s w x r c h e q = let (us, u, m, z, p) = h in counted_there (has u m (within f a us j k)) s w x r (c us u m) p e q
 
 module _ {sig : Sig} (good : Declared sig) where
@@ -97,8 +97,8 @@ module _ {sig : Sig} (good : Declared sig) where
   miscounted_shows ks w a s c e =
       let f : ℕ = c.operator in
       let ls : List Tok = arguments_so_far sig c.so_far in
-      let (v, p, q) = reach_split sig (wants top) origin c.earlier (name_of sig f ∷ ls) s (ap (reach sig (wants top) origin) (sym c.stands) ∙ e) in
-      let (u, r, z) = reach_first sig v (passed origin c.earlier) (name_of sig f) ls s q in
+      let (v, p, q) = reach_split (step sig) (wants top) origin c.earlier (name_of sig f ∷ ls) s (ap (reach sig (wants top) origin) (sym c.stands) ∙ e) in
+      let (u, r, z) = reach_first (step sig) v (passed origin c.earlier) (name_of sig f) ls s q in
       let (k, n) = named_there f c.declared v u (passed origin c.earlier) r in
       shown_count f (op_of sig f).arity c.so_far w (passed origin c.earlier) k (past (passed origin c.earlier) (name_of sig f)) s c.tickets c.shows
       (subst (λ x. reach sig x (past (passed origin c.earlier) (name_of sig f)) ls ≡ Ok s) n z)

@@ -9,10 +9,10 @@ use Rattle.terms.specs.Text.{text_of}
 use Rattle.reading.specs.declared.fault.TextFault.{TextFault}
 use Rattle.reading.specs.declared.fault.TextFault.TheVariants.{PastLimit}
 use Rattle.reading.specs.Tokens.{Tok, tokens, whole, origin}
-use Rattle.reading.specs.Reading.{top, wants, has, ending, chain, run, ticket_limit, read_ticket}
+use Rattle.reading.specs.Reading.{top, wants, has, step, ending, run, ticket_limit, read_ticket}
 use Rattle.reading.specs.Laws.{Begins, Wrong, first_of, FirstWrong, Explained, TicketLaw}
 use Rattle.reading.proofs.Tokens.{Lexed, tokens_lexed, whole_tokens}
-use Rattle.reading.proofs.Running.{reach, passed, run_reach, run_ends, run_stops}
+use Rattle.reading.proofs.Running.{reach, passed, ended, run_on, run_ends, run_stops}
 use Rattle.reading.proofs.Back.{reads}
 use Rattle.reading.proofs.Telling.{tells}
 use Rattle.reading.proofs.Completing.{begins}
@@ -23,13 +23,14 @@ use Rattle.reading.proofs.Giving.{There, gives}
 module _ {sig : Sig} (good : Declared sig) (b : List ℕ) where
   accepted_run : (t : Term) → run sig (wants top) origin (tokens b) ≡ Ok t → Ticket sig t × (text_of sig t ≡ b)
   accepted_run t e =
-      let (m, r) = run_ends sig (wants top) origin (tokens b) t e in
-      let z = tells good (wants top) origin (tokens b) (has t m top) (tokens_lexed 0 b) tt refl r in
+      let (s, r, q) = run_ends (step sig) ending (wants top) origin (tokens b) t e in
+      let (m, same) = ended s (passed origin (tokens b)) t q in
+      let z = tells good (wants top) origin (tokens b) (has t m top) (tokens_lexed 0 b) tt refl (r ∙ ap Ok same) in
       (z.is_good.0, sym (whole_tokens 0 (text_of sig t)) ∙ ap whole z.so_far ∙ whole_tokens 0 b)
 
   refused_run : (f : TextFault) → run sig (wants top) origin (tokens b) ≡ Err f → FirstWrong sig b f
   refused_run f e =
-      let y = run_stops sig (wants top) origin (tokens b) f e in
+      let y = run_stops (step sig) ending (wants top) origin (tokens b) f e in
       let ks : List Tok = take y.before (tokens b) in
       let w : Wrong = first_of (drop y.before (tokens b)) in
       let z = tells good (wants top) origin ks y.state (All-take Lexed y.before (tokens b) (tokens_lexed 0 b)) tt refl y.there in
@@ -58,8 +59,7 @@ module _ {sig : Sig} (good : Declared sig) (b : List ℕ) where
   accepted t h e l =
       let (m, r) = reads good t h top origin in
       cond-true _ _ _ (le-leb (length b) ticket_limit l)
-      ∙ run_reach sig (wants top) origin (tokens b)
-      ∙ ap (λ x. chain x (λ s. ending s (passed origin (tokens b)))) (ap (λ x. reach sig (wants top) origin (tokens x)) (sym e) ∙ r)
+      ∙ run_on (step sig) ending (wants top) origin (tokens b) (has t m top) t (ap (λ x. reach sig (wants top) origin (tokens x)) (sym e) ∙ r) refl
 
 pub ticket_law : (sig : Sig) → Declared sig → (b : List ℕ) → TicketLaw sig b
 ticket_law sig good b = record { explained = explained good b; accepted = accepted good b }

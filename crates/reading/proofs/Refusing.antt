@@ -23,9 +23,9 @@ module _ {sig : Sig} (good : Declared sig) (ks : List Tok) (s : State) (reached 
       let (t, h, more) = b in
       let (rest, e) = more in
       let (m, r) = reads good t h top origin in
-      let (v, p, q) = reach_split sig (wants top) origin (ks ++ (k ∷ [])) rest (has t m top) (ap (reach sig (wants top) origin) (sym e) ∙ r) in
-      let (x, y, z) = reach_split sig (wants top) origin ks (k ∷ []) v p in
-      let (u, i, j) = reach_first sig s (passed origin ks) k [] v (ap (λ x. reach sig x (passed origin ks) (k ∷ [])) (same_ok (sym reached ∙ y)) ∙ z) in
+      let (v, p, q) = reach_split (step sig) (wants top) origin (ks ++ (k ∷ [])) rest (has t m top) (ap (reach sig (wants top) origin) (sym e) ∙ r) in
+      let (x, y, z) = reach_split (step sig) (wants top) origin ks (k ∷ []) v p in
+      let (u, i, j) = reach_first (step sig) s (passed origin ks) k [] v (ap (λ x. reach sig x (passed origin ks) (k ∷ [])) (same_ok (sym reached ∙ y)) ∙ z) in
       (u, i)
 
   ends_here : WholeTicket sig ks → (t : Term) × (ending s (passed origin ks) ≡ Ok t)
@@ -34,7 +34,7 @@ module _ {sig : Sig} (good : Declared sig) (ks : List Tok) (s : State) (reached 
       let (m, r) = reads good t h top origin in
       (t, ap (λ x. ending x (passed origin ks)) (same_ok (sym reached ∙ ap (reach sig (wants top) origin) (sym e) ∙ r)))
 
-  pub stuck : (w : Wrong) (f : TextFault) → Refuses sig s (passed origin ks) w f → StuckAt sig ks w
+  pub stuck : (w : Wrong) (f : TextFault) → Refuses (step sig) ending s (passed origin ks) w f → StuckAt sig ks w
   stuck None f h = λ b. let (t, e) = ends_here b in not_both (sym e ∙ h)
   stuck (Some k) f h = λ b. let (u, e) = goes_on k b in not_both (sym e ∙ h)
 

@@ -134,6 +134,6 @@ module _ {sig : Sig} (good : Declared sig) where
   pub tells : (s : State) (at : At) (ks : List Tok) (u : State) → AllByRecursion Lexed ks → Good sig s → Behind (state_tokens sig s) at → reach sig s at ks ≡ Ok u → Told s at ks u
   tells s at [] u l g p e = subst (Told s at []) (same_ok e) (record { is_good = g; so_far = sym (append-nil (state_tokens sig s)); place = p })
   tells s at (k ∷ ks) u l g p e =
-      let (v, q, r) = reach_first sig s at k ks u e in
+      let (v, q, r) = reach_first (step sig) s at k ks u e in
       let (a, b, c) = subst (Keeps sig s k) q (keeps s at k l.0 g p) in
       told_first s v u at k ks b (tells v (past at k) ks u l.1 a (behind_past (state_tokens sig s) at k (state_tokens sig v) p c b) r)

@@ -15,15 +15,14 @@ use Rattle.reading.specs.Reading.{top, within, State, wants, opens, has, chain}
 use Rattle.reading.proofs.Digits.{numbered_decimal}
 use Rattle.reading.proofs.Equal.{not_both, same_ok}
 use Rattle.reading.proofs.Lines.{follow, line, heading_tokens}
-use Rattle.reading.proofs.Running.{passed}
+use Rattle.reading.proofs.Running.{passed, chain_ok, reach_join, Leads, leads_join, then_reach}
 use Rattle.reading.specs.declared.fault.SheetFault.{SheetFault}
 use Rattle.sheet_reading.specs.Values.{Value, Grid, range_of, ValueIn, LineIn, GridIn}
 use Rattle.sheet_reading.specs.Sheet.{Sheet, SheetShaped, Limits, SideWithin, SheetWithin}
 use Rattle.sheet_reading.specs.Sides.{Hand, on_left, on_right, side_step}
 use Rattle.sheet_reading.specs.Reading.{is_mark, is_word, Stand, in_heading, wants_value, has_value, has_word, in_rule, Move, from_least, value_of, rules_may_come, ends_side, behind_side, sheet_step}
 use Rattle.sheet_reading.proofs.SideFacts.{LeftShaped, RightShaped, HandShaped, side_reach}
-use Rattle.sheet_reading.proofs.Going.{reach, on_ok, reach_join, Leads, leads_join}
-use Rattle.sheet_reading.proofs.Stands.{value_tok, grid_tokens, rule_tokens, rules_tokens, front_tokens, the_word, sheet_tokens}
+use Rattle.sheet_reading.proofs.Stands.{reach, value_tok, grid_tokens, rule_tokens, rules_tokens, front_tokens, the_word, sheet_tokens}
 use Rattle.sheet_reading.proofs.SideBack.{back}
 use Rattle.sheet_reading.proofs.Ranges.{Small, range_small}
 use Rattle.sheet_reading.proofs.Valuing.{mark_is}
@@ -54,10 +53,6 @@ line_long n (o ∷ os) [] h = absurd h
 line_long n (o ∷ os) (v ∷ vs) h = ap suc (line_long n os vs h.1)
 
 module _ (m : Limits) where
-  -- the step that a token is
-  pub then_reach : (s : Stand) (at : At) (k : Tok) (ks : List Tok) (u : Stand) → sheet_step m s at k ≡ Ok u → reach m s at (k ∷ ks) ≡ reach m u (past at k) ks
-  then_reach s at k ks u e = ap (λ (r : Move). chain r (λ v. reach m v (past at k) ks)) e
-
   module _ (sig : Sig) (grid : Grid) (more : length grid < 8) where
     one_back : (vs : List Value) (v : Value) (at : At) → ValueIn (range_of (length grid) (op_of sig (length vs)).arity) v → sheet_step m (wants_value sig grid vs) at (value_tok v) ≡ Ok (has_value sig grid (vs ++ (v ∷ [])))
     one_back vs v at i =
@@ -65,38 +60,38 @@ module _ (m : Limits) where
         ∙ cond-true (ltb (length grid) 8) _ _ (lt-ltb (length grid) 8 more)
         ∙ ap (λ (r : Result Value SheetFault). chain r (λ w. Ok (has_value sig grid (vs ++ (w ∷ []))))) (value_back _ v at (range_small (length grid % 4) (op_of sig (length vs)).arity) i)
 
-    line_back : (rest vs : List Value) (v : Value) → LineIn (length grid) sig (vs ++ (v ∷ rest)) → Leads m (wants_value sig grid vs) (value_tok v ∷ follow (map value_tok rest)) (wants_value sig (grid ++ ((vs ++ (v ∷ rest)) ∷ [])) [])
+    line_back : (rest vs : List Value) (v : Value) → LineIn (length grid) sig (vs ++ (v ∷ rest)) → Leads (sheet_step m) (wants_value sig grid vs) (value_tok v ∷ follow (map value_tok rest)) (wants_value sig (grid ++ ((vs ++ (v ∷ rest)) ∷ [])) [])
     line_back [] vs v h at =
-        then_reach (wants_value sig grid vs) at (value_tok v) (a_mark LineEnd ∷ []) _ (one_back vs v at (line_at (length grid) sig vs v [] h))
-        ∙ then_reach (has_value sig grid (vs ++ (v ∷ []))) (past at (value_tok v)) (a_mark LineEnd) [] (wants_value sig (grid ++ ((vs ++ (v ∷ [])) ∷ [])) [])
+        then_reach (sheet_step m) (wants_value sig grid vs) at (value_tok v) (a_mark LineEnd ∷ []) _ (one_back vs v at (line_at (length grid) sig vs v [] h))
+        ∙ then_reach (sheet_step m) (has_value sig grid (vs ++ (v ∷ []))) (past at (value_tok v)) (a_mark LineEnd) [] (wants_value sig (grid ++ ((vs ++ (v ∷ [])) ∷ [])) [])
         (cond-false (ltb (length (vs ++ (v ∷ []))) (length sig)) _ _ (le-ltb (length (vs ++ (v ∷ []))) (length sig) (omega (arith, line_long (length grid) sig (vs ++ (v ∷ [])) h))))
     line_back (w ∷ rest) vs v h at =
         let same : (vs ++ (v ∷ [])) ++ (w ∷ rest) ≡ vs ++ (v ∷ (w ∷ rest)) = append_assoc vs (v ∷ []) (w ∷ rest) in
         let ks : List Tok = value_tok w ∷ follow (map value_tok rest) in
-        then_reach (wants_value sig grid vs) at (value_tok v) (a_mark Blank ∷ ks) _ (one_back vs v at (line_at (length grid) sig vs v (w ∷ rest) h))
-        ∙ then_reach (has_value sig grid (vs ++ (v ∷ []))) (past at (value_tok v)) (a_mark Blank) ks (wants_value sig grid (vs ++ (v ∷ [])))
+        then_reach (sheet_step m) (wants_value sig grid vs) at (value_tok v) (a_mark Blank ∷ ks) _ (one_back vs v at (line_at (length grid) sig vs v (w ∷ rest) h))
+        ∙ then_reach (sheet_step m) (has_value sig grid (vs ++ (v ∷ []))) (past at (value_tok v)) (a_mark Blank) ks (wants_value sig grid (vs ++ (v ∷ [])))
         (cond-true (ltb (length (vs ++ (v ∷ []))) (length sig)) _ _ (lt-ltb (length (vs ++ (v ∷ []))) (length sig) (omega (arith, line_long (length grid) sig (vs ++ (v ∷ (w ∷ rest))) h, length-append vs (v ∷ (w ∷ rest)), length_push vs v))))
         ∙ line_back rest (vs ++ (v ∷ [])) w (subst (LineIn (length grid) sig) (sym same) h) _
         ∙ ap (λ l. Ok (wants_value sig (grid ++ (l ∷ [])) [])) same
 
-    whole_line : (vs : List Value) → 1 ≤ length sig → LineIn (length grid) sig vs → Leads m (wants_value sig grid []) (line (map value_tok vs)) (wants_value sig (grid ++ (vs ∷ [])) [])
+    whole_line : (vs : List Value) → 1 ≤ length sig → LineIn (length grid) sig vs → Leads (sheet_step m) (wants_value sig grid []) (line (map value_tok vs)) (wants_value sig (grid ++ (vs ∷ [])) [])
     whole_line [] some h = absurd (omega (arith, line_long (length grid) sig [] h))
     whole_line (v ∷ vs) some h = line_back vs [] v h
 
-  grid_back : (sig : Sig) (g grid : Grid) → 1 ≤ length sig → GridIn (length grid) sig g → length grid + length g ≤ 8 → Leads m (wants_value sig grid []) (grid_tokens g) (wants_value sig (grid ++ g) [])
+  grid_back : (sig : Sig) (g grid : Grid) → 1 ≤ length sig → GridIn (length grid) sig g → length grid + length g ≤ 8 → Leads (sheet_step m) (wants_value sig grid []) (grid_tokens g) (wants_value sig (grid ++ g) [])
   grid_back sig [] grid some h l = λ at. ap (λ x. Ok (wants_value sig x [])) (sym (append-nil grid))
   grid_back sig (vs ∷ g) grid some h l =
       let long = length_push grid vs in
       let same : (grid ++ (vs ∷ [])) ++ g ≡ grid ++ (vs ∷ g) = append_assoc grid (vs ∷ []) g in
       let rest : GridIn (length (grid ++ (vs ∷ []))) sig g = subst (λ n. GridIn n sig g) (omega arith) h.1 in
-      leads_join m (wants_value sig grid []) (line (map value_tok vs)) (grid_tokens g) (wants_value sig (grid ++ (vs ∷ [])) []) (wants_value sig (grid ++ (vs ∷ g)) [])
+      leads_join (sheet_step m) (wants_value sig grid []) (line (map value_tok vs)) (grid_tokens g) (wants_value sig (grid ++ (vs ∷ [])) []) (wants_value sig (grid ++ (vs ∷ g)) [])
       (whole_line sig grid (omega arith) vs some h.0)
       (λ at. grid_back sig g (grid ++ (vs ∷ [])) some rest (omega arith) at ∙ ap (λ x. Ok (wants_value sig x [])) same)
 
-  word_back : (sig : Sig) (grid : Grid) → (length grid ≡ 4) ⊎ (length grid ≡ 8) → Leads m (wants_value sig grid []) (the_word ∷ (a_mark LineEnd ∷ [])) (in_rule sig grid [] on_left (wants top))
+  word_back : (sig : Sig) (grid : Grid) → (length grid ≡ 4) ⊎ (length grid ≡ 8) → Leads (sheet_step m) (wants_value sig grid []) (the_word ∷ (a_mark LineEnd ∷ [])) (in_rule sig grid [] on_left (wants top))
   word_back sig grid h at =
       let may : rules_may_come grid [] ≡ true = ⊎_elim (λ e. or_left (eqb (length grid) 4) _ (eq-eqb (length grid) 4 e)) (λ e. or_right (eqb (length grid) 4) _ (eq-eqb (length grid) 8 e)) h in
-      then_reach (wants_value sig grid []) at the_word (a_mark LineEnd ∷ []) (has_word sig grid) (cond-true (rules_may_come grid [] && is_word (codes "rules") the_word) _ _ (and_from (rules_may_come grid []) _ may refl))
+      then_reach (sheet_step m) (wants_value sig grid []) at the_word (a_mark LineEnd ∷ []) (has_word sig grid) (cond-true (rules_may_come grid [] && is_word (codes "rules") the_word) _ _ (and_from (rules_may_come grid []) _ may refl))
 
 -- rules
 
@@ -115,34 +110,34 @@ module _ (m : Limits) (sig : Sig) (good : Declared sig) (grid : Grid) where
   sides_on : (rules : List Rule) (d : Hand) (ks : List Tok) (s : State) (at : At) (u : State) → side_reach m sig (length rules) d s at ks ≡ Ok u → reach m (in_rule sig grid rules d s) at ks ≡ Ok (in_rule sig grid rules d u)
   sides_on rules d [] s at u e = ap (λ x. Ok (in_rule sig grid rules d x)) (same_ok e)
   sides_on rules d (k ∷ ks) s at u e =
-      let (v, p, q) = on_ok (side_step m sig (length rules) d s at k) _ u e in
-      then_reach m (in_rule sig grid rules d s) at k ks (in_rule sig grid rules d v) (side_on rules d s at k v p) ∙ sides_on rules d ks v (past at k) u q
+      let (v, p, q) = chain_ok (side_step m sig (length rules) d s at k) _ u e in
+      then_reach (sheet_step m) (in_rule sig grid rules d s) at k ks (in_rule sig grid rules d v) (side_on rules d s at k v p) ∙ sides_on rules d ks v (past at k) u q
 
   -- a side and the mark that ends it
   side_back : (rules : List Rule) (d : Hand) (t : Term) (k : Tok) → length rules < m.rules → HandShaped sig d t → SideWithin m t → ends_side d k ≡ true
-      → Leads m (in_rule sig grid rules d (wants top)) (tokens (text_of sig t) ++ (k ∷ [])) (behind_side sig grid rules d t)
+      → Leads (sheet_step m) (in_rule sig grid rules d (wants top)) (tokens (text_of sig t) ++ (k ∷ [])) (behind_side sig grid rules d t)
   side_back rules d t k room h w e at =
       let (b, r) = back good m (length rules) room d t at h w in
-      reach_join m (in_rule sig grid rules d (wants top)) at (tokens (text_of sig t)) (k ∷ []) (in_rule sig grid rules d (has t b top)) (behind_side sig grid rules d t)
+      reach_join (sheet_step m) (in_rule sig grid rules d (wants top)) at (tokens (text_of sig t)) (k ∷ []) (in_rule sig grid rules d (has t b top)) (behind_side sig grid rules d t)
       (sides_on rules d (tokens (text_of sig t)) (wants top) at (has t b top) r)
-      (then_reach m (in_rule sig grid rules d (has t b top)) (passed at (tokens (text_of sig t))) k [] (behind_side sig grid rules d t) (cond-true (ends_side d k) _ _ e))
+      (then_reach (sheet_step m) (in_rule sig grid rules d (has t b top)) (passed at (tokens (text_of sig t))) k [] (behind_side sig grid rules d t) (cond-true (ends_side d k) _ _ e))
 
-  rule_back : (rules : List Rule) (r : Rule) → length rules < m.rules → RuleOf sig r → SideWithin m r.left × SideWithin m r.right → Leads m (in_rule sig grid rules on_left (wants top)) (rule_tokens sig r) (in_rule sig grid (rules ++ (r ∷ [])) on_left (wants top))
+  rule_back : (rules : List Rule) (r : Rule) → length rules < m.rules → RuleOf sig r → SideWithin m r.left × SideWithin m r.right → Leads (sheet_step m) (in_rule sig grid rules on_left (wants top)) (rule_tokens sig r) (in_rule sig grid (rules ++ (r ∷ [])) on_left (wants top))
   rule_back rules r room h w =
       let left : LeftShaped sig r.left = record { is_term = h.left_term; operator_first = h.operator_first; linear = h.linear } in
       let right : RightShaped sig r.left r.right = record { is_term = h.right_term; bound = h.bound } in
-      subst (λ ks. Leads m (in_rule sig grid rules on_left (wants top)) ks (in_rule sig grid (rules ++ (r ∷ [])) on_left (wants top)))
+      subst (λ ks. Leads (sheet_step m) (in_rule sig grid rules on_left (wants top)) ks (in_rule sig grid (rules ++ (r ∷ [])) on_left (wants top)))
       (append_assoc (tokens (text_of sig r.left)) (a_mark Equals ∷ []) (tokens (text_of sig r.right) ++ (a_mark LineEnd ∷ [])))
-      (leads_join m (in_rule sig grid rules on_left (wants top)) (tokens (text_of sig r.left) ++ (a_mark Equals ∷ [])) (tokens (text_of sig r.right) ++ (a_mark LineEnd ∷ [])) (in_rule sig grid rules (on_right r.left) (wants top)) (in_rule sig grid (rules ++ (r ∷ [])) on_left (wants top))
+      (leads_join (sheet_step m) (in_rule sig grid rules on_left (wants top)) (tokens (text_of sig r.left) ++ (a_mark Equals ∷ [])) (tokens (text_of sig r.right) ++ (a_mark LineEnd ∷ [])) (in_rule sig grid rules (on_right r.left) (wants top)) (in_rule sig grid (rules ++ (r ∷ [])) on_left (wants top))
       (side_back rules on_left r.left (a_mark Equals) room left w.0 refl)
       (side_back rules (on_right r.left) r.right (a_mark LineEnd) room right w.1 refl))
 
   rules_back : (rs rules : List Rule) → AllByRecursion (RuleOf sig) rs → AllByRecursion (λ r. SideWithin m r.left × SideWithin m r.right) rs → length rules + length rs ≤ m.rules
-      → Leads m (in_rule sig grid rules on_left (wants top)) (rules_tokens sig rs) (in_rule sig grid (rules ++ rs) on_left (wants top))
+      → Leads (sheet_step m) (in_rule sig grid rules on_left (wants top)) (rules_tokens sig rs) (in_rule sig grid (rules ++ rs) on_left (wants top))
   rules_back [] rules h w l = λ at. ap (λ x. Ok (in_rule sig grid x on_left (wants top))) (sym (append-nil rules))
   rules_back (r ∷ rs) rules h w l =
       let long = length_push rules r in
-      leads_join m (in_rule sig grid rules on_left (wants top)) (rule_tokens sig r) (rules_tokens sig rs) (in_rule sig grid (rules ++ (r ∷ [])) on_left (wants top)) (in_rule sig grid (rules ++ (r ∷ rs)) on_left (wants top))
+      leads_join (sheet_step m) (in_rule sig grid rules on_left (wants top)) (rule_tokens sig r) (rules_tokens sig rs) (in_rule sig grid (rules ++ (r ∷ [])) on_left (wants top)) (in_rule sig grid (rules ++ (r ∷ rs)) on_left (wants top))
       (rule_back rules r (omega arith) h.0 w.0)
       (λ at. rules_back rs (rules ++ (r ∷ [])) h.1 w.1 (omega arith) at ∙ ap (λ x. Ok (in_rule sig grid x on_left (wants top))) (append_assoc rules (r ∷ []) rs))
 
@@ -150,15 +145,15 @@ module _ (m : Limits) (sig : Sig) (good : Declared sig) (grid : Grid) where
 abbrev pub behind_sheet : Sheet → Stand
 behind_sheet s = in_rule s.operators s.values s.rules on_left (wants top)
 
-pub sheet_back : (m : Limits) (s : Sheet) → SheetShaped s → SheetWithin m s → Leads m (in_heading ([], WantsName)) (sheet_tokens s) (behind_sheet s)
+pub sheet_back : (m : Limits) (s : Sheet) → SheetShaped s → SheetWithin m s → Leads (sheet_step m) (in_heading ([], WantsName)) (sheet_tokens s) (behind_sheet s)
 sheet_back m s h w =
     let sig : Sig = s.operators in
     let grid : Grid = s.values in
     let start : Stand = in_heading ([], WantsName) in
     let few : 0 + length grid ≤ 8 = ⊎_elim (λ e. omega arith) (λ e. omega arith) h.one_or_two in
-    let front : Leads m start (front_tokens sig grid) (wants_value sig grid []) = leads_join m start (heading_tokens sig) (grid_tokens grid) (wants_value sig [] []) (wants_value sig grid [])
+    let front : Leads (sheet_step m) start (front_tokens sig grid) (wants_value sig grid []) = leads_join (sheet_step m) start (heading_tokens sig) (grid_tokens grid) (wants_value sig [] []) (wants_value sig grid [])
     (heading_back m sig h.declared h.some_operators w.few_operators) (grid_back m sig grid [] h.some_operators h.in_range few) in
-    leads_join m start (front_tokens sig grid) (the_word ∷ (a_mark LineEnd ∷ rules_tokens sig s.rules)) (wants_value sig grid []) (behind_sheet s) front
-    (leads_join m (wants_value sig grid []) (the_word ∷ (a_mark LineEnd ∷ [])) (rules_tokens sig s.rules) (in_rule sig grid [] on_left (wants top)) (behind_sheet s)
+    leads_join (sheet_step m) start (front_tokens sig grid) (the_word ∷ (a_mark LineEnd ∷ rules_tokens sig s.rules)) (wants_value sig grid []) (behind_sheet s) front
+    (leads_join (sheet_step m) (wants_value sig grid []) (the_word ∷ (a_mark LineEnd ∷ [])) (rules_tokens sig s.rules) (in_rule sig grid [] on_left (wants top)) (behind_sheet s)
     (word_back m sig grid h.one_or_two)
     (rules_back m sig h.declared grid s.rules [] h.lawful w.small_sides (omega (arith, w.few_rules))))

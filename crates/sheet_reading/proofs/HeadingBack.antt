@@ -15,8 +15,9 @@ use Rattle.reading.proofs.Lines.{follow, line, name_tok, count_tok, heading_toke
 use Rattle.reading.specs.Heading.{Outcome, named_once, counted}
 use Rattle.reading.specs.Reading.{chain}
 use Rattle.sheet_reading.specs.Sheet.{Limits}
-use Rattle.sheet_reading.specs.Reading.{in_heading, wants_value, Move, headed}
-use Rattle.sheet_reading.proofs.Going.{reach, Leads}
+use Rattle.sheet_reading.specs.Reading.{in_heading, wants_value, Move, headed, sheet_step}
+use Rattle.sheet_reading.proofs.Stands.{reach}
+use Rattle.reading.proofs.Running.{Leads}
 
 module _ (m : Limits) where
   -- what follows a token
@@ -38,7 +39,7 @@ module _ (m : Limits) where
       ∙ others_back rest (front ++ (o ∷ [])) (suc f) _ (omega (arith, length-append front (o ∷ []))) h.1
       ∙ ap (λ s. Ok (wants_value s [] [])) (append_assoc front (o ∷ []) rest)
 
-  counts_back : (sig : Sig) → 1 ≤ length sig → AllByRecursion (λ (o : Op). o.arity ≤ 3) sig → Leads m (in_heading (bare sig, WantsCount 0)) (line (map count_tok sig)) (wants_value sig [] [])
+  counts_back : (sig : Sig) → 1 ≤ length sig → AllByRecursion (λ (o : Op). o.arity ≤ 3) sig → Leads (sheet_step m) (in_heading (bare sig, WantsCount 0)) (line (map count_tok sig)) (wants_value sig [] [])
   counts_back [] h r at = absurd (omega arith)
   counts_back (o ∷ rest) h r at = count_back [] (bare rest) o 0 at (follow (map count_tok rest)) refl r.0 ∙ others_back rest (o ∷ []) 0 _ refl r.1
 
@@ -51,14 +52,14 @@ module _ (m : Limits) where
         ap (on at (name_tok o) ks) (cond-false _ _ _ (lt-leb m.operators (length (bare front)) room) ∙ ap (λ r. named_once r (bare front) o.name at) fresh)
         ∙ ap (λ s. reach m (in_heading (s, HasName)) (past at (name_tok o)) ks) (sym (map_push bare_op front o))
 
-    names_back : (ks : List Tok) → Leads m (in_heading (bare sig, WantsCount 0)) ks (wants_value sig [] []) → (rest front : Sig) (at : At) → front ++ rest ≡ sig
+    names_back : (ks : List Tok) → Leads (sheet_step m) (in_heading (bare sig, WantsCount 0)) ks (wants_value sig [] []) → (rest front : Sig) (at : At) → front ++ rest ≡ sig
         → reach m (in_heading (bare front, HasName)) at (follow (map name_tok rest) ++ ks) ≡ Ok (wants_value sig [] [])
     names_back ks next [] front at e = ap (λ s. reach m (in_heading (bare s, WantsCount 0)) (past at (a_mark LineEnd)) ks) (sym (append-nil front) ∙ e) ∙ next (past at (a_mark LineEnd))
     names_back ks next (o ∷ rest) front at e =
         name_back front rest o (past at (a_mark Blank)) (follow (map name_tok rest) ++ ks) e
         ∙ names_back ks next rest (front ++ (o ∷ [])) _ (append_assoc front (o ∷ []) rest ∙ e)
 
-  pub heading_back : (sig : Sig) → Declared sig → 1 ≤ length sig → length sig ≤ m.operators → Leads m (in_heading ([], WantsName)) (heading_tokens sig) (wants_value sig [] [])
+  pub heading_back : (sig : Sig) → Declared sig → 1 ≤ length sig → length sig ≤ m.operators → Leads (sheet_step m) (in_heading ([], WantsName)) (heading_tokens sig) (wants_value sig [] [])
   heading_back [] good some few at = absurd (omega arith)
   heading_back (o ∷ rest) good some few at =
       let ks : List Tok = line (map count_tok (o ∷ rest)) in

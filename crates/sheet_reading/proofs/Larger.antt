@@ -17,8 +17,8 @@ use Rattle.sheet_reading.specs.Sides.{Hand, side_step}
 use Rattle.sheet_reading.specs.Reading.{Stand, in_heading, wants_value, has_value, has_word, in_rule, ends_side, in_side, on_rule, sheet_step}
 use Rattle.sheet_reading.proofs.SideFacts.{More}
 use Rattle.sheet_reading.proofs.SideLimits.{Stays, same, stays_on, stays}
-use Rattle.sheet_reading.proofs.Going.{reach, reach_first}
-use Rattle.sheet_reading.proofs.Back.{then_reach}
+use Rattle.sheet_reading.proofs.Stands.{reach}
+use Rattle.reading.proofs.Running.{reach_first, then_reach}
 
 stays_cond : {A : Type 0} (b : Bool) (x r q : Result A SheetFault) → Stays r q → Stays (cond b x r) (cond b x q)
 stays_cond true x r q h = same x
@@ -70,5 +70,5 @@ module _ (m n : Limits) (more : More m n) where
   pub reached : (s : Stand) (at : At) (ks : List Tok) (u : Stand) → reach m s at ks ≡ Ok u → reach n s at ks ≡ Ok u
   reached s at [] u e = e
   reached s at (k ∷ ks) u e =
-      let (v, q, r) = reach_first m s at k ks u e in
-      then_reach n s at k ks v (subst (λ x. Stays x (sheet_step n s at k)) q (sheet_stays s at k)) ∙ reached v (past at k) ks u r
+      let (v, q, r) = reach_first (sheet_step m) s at k ks u e in
+      then_reach (sheet_step n) s at k ks v (subst (λ x. Stays x (sheet_step n s at k)) q (sheet_stays s at k)) ∙ reached v (past at k) ks u r

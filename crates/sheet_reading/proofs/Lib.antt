@@ -11,7 +11,6 @@ pub mod SideCompleting
 pub mod SideBack
 pub mod SideLimits
 pub mod Cases
-pub mod Going
 pub mod Stands
 pub mod Ranges
 pub mod Written

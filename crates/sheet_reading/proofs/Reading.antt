@@ -10,15 +10,15 @@ use Rattle.reading.specs.Heading.{sheet_limit}
 use Rattle.reading.specs.Laws.{Wrong, first_of}
 use Rattle.reading.proofs.Equal.{no_some, same_some, not_both, same_ok}
 use Rattle.reading.proofs.Tokens.{whole_tokens}
-use Rattle.reading.proofs.Running.{passed}
+use Rattle.reading.proofs.Running.{passed, run_on, run_ends, run_stops}
 use Rattle.reading.specs.declared.fault.SheetFault.{SheetFault}
 use Rattle.reading.specs.declared.fault.SheetFault.TheVariants.{Text}
 use Rattle.sheet_reading.specs.Sheet.{Sheet, SheetShaped, limits, SheetWithin, sheet_text}
 use Rattle.sheet_reading.specs.Sides.{on_left, on_right}
-use Rattle.sheet_reading.specs.Reading.{Stand, in_heading, wants_value, has_value, has_word, in_rule, rule_end, sheet_end, sheet_run, read_sheet}
+use Rattle.sheet_reading.specs.Reading.{Stand, in_heading, wants_value, has_value, has_word, in_rule, rule_end, sheet_step, sheet_end, sheet_run, read_sheet}
 use Rattle.sheet_reading.specs.Laws.{FirstWrong, Explained, SheetLaw}
 use Rattle.sheet_reading.proofs.Tokens.{Lexed, tokens_lexed}
-use Rattle.sheet_reading.proofs.Going.{reach, run_reach, run_ends, run_stops}
+use Rattle.sheet_reading.proofs.Stands.{reach}
 use Rattle.sheet_reading.proofs.Written.{tokens_sheet}
 use Rattle.sheet_reading.proofs.Causes.{Cause, refused_for}
 use Rattle.sheet_reading.proofs.Headings.{none}
@@ -51,7 +51,7 @@ first_lexed (j ∷ ks) l k e = subst Lexed (same_some e) l.0
 module _ (b : List ℕ) where
   accepted_run : (t : Sheet) → sheet_run limits start origin (tokens b) ≡ Ok t → SheetShaped t × SheetWithin limits t × (sheet_text t ≡ b)
   accepted_run t e =
-      let (s, r, q) = run_ends limits start origin (tokens b) t e in
+      let (s, r, q) = run_ends (sheet_step limits) sheet_end start origin (tokens b) t e in
       let same = ends s (passed origin (tokens b)) t q in
       let z = tells start origin (tokens b) (behind_sheet t) (tokens_lexed 0 b) none refl (r ∙ ap Ok same) in
       let shaped : SheetShaped t = z.is_good.shaped in (
@@ -62,22 +62,22 @@ module _ (b : List ℕ) where
 
   refused_run : (f : SheetFault) → sheet_run limits start origin (tokens b) ≡ Err f → FirstWrong b f
   refused_run f e =
-      let y = run_stops limits start origin (tokens b) f e in
+      let y = run_stops (sheet_step limits) sheet_end start origin (tokens b) f e in
       let ks : List Tok = take y.before (tokens b) in
       let w : Wrong = first_of (drop y.before (tokens b)) in
       let lexed : AllByRecursion Lexed ks = All-take Lexed y.before (tokens b) (tokens_lexed 0 b) in
       let next = first_lexed (drop y.before (tokens b)) (All-drop Lexed y.before (tokens b) (tokens_lexed 0 b)) in
-      let z = tells start origin ks y.stand lexed none refl y.there in
-      let t = begun y.stand z.is_good in
+      let z = tells start origin ks y.state lexed none refl y.there in
+      let t = begun y.state z.is_good in
       let c : Cause t.sheet.operators ks w f =
-      subst (λ l. Cause t.sheet.operators l w f) z.so_far (cause y.stand (passed origin ks) w f z.is_good z.place y.refuses next t.sheet.operators t.over) in
+      subst (λ l. Cause t.sheet.operators l w f) z.so_far (cause y.state (passed origin ks) w f z.is_good z.place y.refuses next t.sheet.operators t.over) in
       record {
         before = y.before;
         sheet = t.sheet;
         shaped = t.shaped;
         rest = t.rest;
         begins = tokens_sheet t.sheet t.shaped ∙ t.begins ∙ ap (λ l. l ++ t.rest) z.so_far;
-        refused = refused_for t.sheet.operators ks w f c (stuck ks y.stand y.there w f y.refuses);
+        refused = refused_for t.sheet.operators ks w f c (stuck ks y.state y.there w f y.refuses);
       }
 
   explained_run : (r : Result Sheet SheetFault) → sheet_run limits start origin (tokens b) ≡ r → length b ≤ sheet_limit → Explained b r
@@ -94,9 +94,8 @@ module _ (b : List ℕ) where
   unfolding read_sheet
   accepted s h w e l =
       cond-true _ _ _ (le-leb (length b) sheet_limit l)
-      ∙ run_reach limits start origin (tokens b)
-      ∙ ap (λ (x : Result Stand SheetFault). chain x (λ u. sheet_end u (passed origin (tokens b))))
-      (ap (λ x. reach limits start origin (tokens x)) (sym e) ∙ ap (reach limits start origin) (tokens_sheet s h) ∙ sheet_back limits s h w origin)
+      ∙ run_on (sheet_step limits) sheet_end start origin (tokens b) (behind_sheet s) s
+      (ap (λ x. reach limits start origin (tokens x)) (sym e) ∙ ap (reach limits start origin) (tokens_sheet s h) ∙ sheet_back limits s h w origin) refl
 
 pub sheet_law : (b : List ℕ) → SheetLaw b
 sheet_law b = record { explained = explained b; accepted = accepted b }

@@ -15,8 +15,8 @@ use Rattle.reading.specs.Reading.{Context, top, within, State, wants, has, and_t
 use Rattle.reading.specs.Laws.{further_arguments, arguments_so_far}
 use Rattle.reading.proofs.Digits.{numbered_decimal}
 use Rattle.reading.proofs.Lexing.{closing}
-use Rattle.reading.proofs.Running.{passed}
-use Rattle.reading.proofs.Back.{join, join_then, then_join, name_step}
+use Rattle.reading.proofs.Running.{passed, reach_join}
+use Rattle.reading.proofs.Back.{ComesTo, join, join_then, then_join, name_step}
 use Rattle.reading.specs.declared.fault.SheetFault.{SheetFault}
 use Rattle.sheet_reading.specs.Sheet.{Limits, SideWithin}
 use Rattle.sheet_reading.specs.Sides.{Hand, on_left, on_right, symbols_before, depth, occurrences_before, room, within_room, in_text, fronted, variable_on, side_step}
@@ -24,10 +24,6 @@ use Rattle.sheet_reading.proofs.Lexing.{tokens_term}
 use Rattle.sheet_reading.proofs.SideFacts.{HandShaped, side_reach}
 use Rattle.sheet_reading.proofs.SideStates.{MayStand, Fronted}
 use Rattle.sheet_reading.proofs.SideSteps.{front_within}
-
--- a run comes to the last of these arguments of f, with n to follow
-abbrev Leads : Result State SheetFault → ℕ → At → ℕ → Context → Terms → Type 0
-Leads r f a n k ts = (us : Terms) × (u : Term) × (m : Option At) × (and_then us u ≡ ts) × (r ≡ Ok (has u m (within f a us n k)))
 
 symbols_then : (ts : Terms) (t : Term) → symbols_in (and_then ts t) ≡ symbols_in ts + symbols t
 symbols_then nil t = omega arith
@@ -93,16 +89,6 @@ module _ {sig : Sig} (good : Declared sig) (m : Limits) (rules : ℕ) (room_for_
   abbrev reach : State → At → List Tok → Result State SheetFault
   reach = side_reach m sig rules d
 
-  reach_append : (s : State) (at : At) (ks ls : List Tok) → reach s at (ks ++ ls) ≡ chain (reach s at ks) (λ u. reach u (passed at ks) ls)
-  reach_append s at [] ls = refl
-  reach_append s at (k ∷ ks) ls =
-      elim (side_step m sig rules d s at k) as (λ r. chain r (λ u. reach u (past at k) (ks ++ ls)) ≡ chain (chain r (λ u. reach u (past at k) ks)) (λ u. reach u (passed at (k ∷ ks)) ls))
-      [ Ok u ↦ reach_append u (past at k) ks ls | Err g ↦ refl ]
-
-  -- behind the first tokens, and from there behind the others
-  reach_join : (s : State) (at : At) (ks ls : List Tok) (v u : State) → reach s at ks ≡ Ok v → reach v (passed at ks) ls ≡ Ok u → reach s at (ks ++ ls) ≡ Ok u
-  reach_join s at ks ls v u e q = reach_append s at ks ls ∙ ap (λ r. chain r (λ u. reach u (passed at ks) ls)) e ∙ q
-
   -- some tokens are read as the term, wherever it fits
   abbrev Reads : List Tok → Term → Type 0
   Reads ks t = (k : Context) (at : At) → Fits m d t k → (b : Option At) × (reach (wants k) at ks ≡ Ok (has t b k))
@@ -110,20 +96,20 @@ module _ {sig : Sig} (good : Declared sig) (m : Limits) (rules : ℕ) (room_for_
   -- further arguments are read on
   abbrev Further : Terms → Type 0
   Further ts = (us : Terms) (u : Term) (b : Option At) (f : ℕ) (a : At) (k : Context) (at : At) → RowFits m d ts (and_then us u) k
-      → Leads (reach (has u b (within f a us (how_many ts) k)) at (further_arguments sig ts)) f a 0 k (join us (cons u ts))
+      → ComesTo (reach (has u b (within f a us (how_many ts) k)) at (further_arguments sig ts)) f a 0 k (join us (cons u ts))
 
   leads_row : (t : Term) (ts : Terms) → Reads (tokens (text_of sig t)) t → Further ts → (us : Terms) (f : ℕ) (a : At) (k : Context) (at : At) → RowFits m d (cons t ts) us k
-      → Leads (reach (wants (within f a us (how_many ts) k)) at (tokens (text_of sig t) ++ further_arguments sig ts)) f a 0 k (join us (cons t ts))
+      → ComesTo (reach (wants (within f a us (how_many ts) k)) at (tokens (text_of sig t) ++ further_arguments sig ts)) f a 0 k (join us (cons t ts))
   leads_row t ts h g us f a k at r =
       let w : Context = within f a us (how_many ts) k in
       let (b, p) = h w at (fits_first m d t ts us f a (how_many ts) k r) in
       let (vs, v, c, q, e) = g us t b f a k (passed at (tokens (text_of sig t))) (fits_rest m d t ts us k r) in
-      (vs, v, c, q, reach_join (wants w) at (tokens (text_of sig t)) (further_arguments sig ts) (has t b w) (has v c (within f a vs 0 k)) p e)
+      (vs, v, c, q, reach_join (side_step m sig rules d) (wants w) at (tokens (text_of sig t)) (further_arguments sig ts) (has t b w) (has v c (within f a vs 0 k)) p e)
 
-  closes : (s : State) (at : At) (ks : List Tok) (f : ℕ) (a : At) (k : Context) (ts : Terms) → Leads (reach s at ks) f a 0 k ts → (b : Option At) × (reach s at (ks ++ (a_mark Closing ∷ [])) ≡ Ok (has (apply f ts) b k))
+  closes : (s : State) (at : At) (ks : List Tok) (f : ℕ) (a : At) (k : Context) (ts : Terms) → ComesTo (reach s at ks) f a 0 k ts → (b : Option At) × (reach s at (ks ++ (a_mark Closing ∷ [])) ≡ Ok (has (apply f ts) b k))
   closes s at ks f a k ts h =
       let (us, u, b, e, q) = h in
-      (None, reach_join s at ks (a_mark Closing ∷ []) (has u b (within f a us 0 k)) (has (apply f ts) None k) q (ap (λ l. Ok (has (apply f l) None k)) e))
+      (None, reach_join (side_step m sig rules d) s at ks (a_mark Closing ∷ []) (has u b (within f a us 0 k)) (has (apply f ts) None k) q (ap (λ l. Ok (has (apply f l) None k)) e))
 
   mutual
     pub reads : (t : Term) → TermOf sig t → Reads (tokens (text_of sig t)) t

@@ -11,6 +11,7 @@ use Rattle.reading.specs.declared.fault.TextFault.{TextFault}
 use Rattle.reading.specs.declared.fault.TextFault.TheVariants.{Stray, BadNumber, Unexpected, Undeclared, WrongArity, PastLimit}
 use Rattle.reading.specs.Tokens.{Tok, a_name, a_number, an_instrument, a_variable, a_stray, past}
 use Rattle.reading.specs.Reading.{top, State, wants, chain}
+use Rattle.reading.proofs.Running.{reach_with}
 use Rattle.reading.proofs.States.{state_tokens}
 use Rattle.reading.specs.declared.fault.SheetFault.{SheetFault}
 use Rattle.reading.specs.declared.fault.SheetFault.TheVariants.{Text, Repeated, Headless, Doubled, Unbound}
@@ -34,8 +35,7 @@ HandShaped sig (on_right l) t = RightShaped sig l t
 
 -- the state behind some tokens of a side
 abbrev pub side_reach : Limits → Sig → ℕ → Hand → State → At → List Tok → Result State SheetFault
-side_reach m sig rules d s at [] = Ok s
-side_reach m sig rules d s at (k ∷ ks) = chain (side_step m sig rules d s at k) (λ u. side_reach m sig rules d u (past at k) ks)
+side_reach m sig rules d = reach_with (side_step m sig rules d)
 
 -- why a token of a side is refused at a place, behind the tokens before the side and those of the side so far
 abbrev pub TextReason : Limits → Sig → ℕ → List Tok → List Tok → At → Tok → TextFault → Type 0

@@ -9,12 +9,13 @@ use Rattle.reading.specs.declared.heading.Stage.TheVariants.{WantsName, HasName,
 use Rattle.reading.specs.Tokens.{Tok, a_name, a_number, a_mark, tokens, whole, lines, past}
 use Rattle.reading.specs.Heading.{Head}
 use Rattle.reading.proofs.Lines.{follow, line, name_tok, count_tok, heading_tokens}
+use Rattle.reading.proofs.Running.{reach_with}
 use Rattle.reading.proofs.States.{state_tokens}
 use Rattle.reading.proofs.Telling.{same_at, length_whole}
 use Rattle.sheet_reading.specs.Values.{Value, Grid}
-use Rattle.sheet_reading.specs.Sheet.{Sheet}
+use Rattle.sheet_reading.specs.Sheet.{Sheet, Limits}
 use Rattle.sheet_reading.specs.Sides.{Hand, on_left, on_right}
-use Rattle.sheet_reading.specs.Reading.{Stand, in_heading, wants_value, has_value, has_word, in_rule}
+use Rattle.sheet_reading.specs.Reading.{Stand, in_heading, wants_value, has_value, has_word, in_rule, Move, sheet_step}
 use Rattle.sheet_reading.specs.Laws.{count, Behind, names_on}
 use Rattle.sheet_reading.proofs.Counting.{count_then}
 
@@ -126,6 +127,10 @@ stand_tokens (wants_value sig grid vs) = front_tokens sig grid ++ blanked (map v
 stand_tokens (has_value sig grid vs) = front_tokens sig grid ++ spaced (map value_tok vs)
 stand_tokens (has_word sig grid) = front_tokens sig grid ++ (the_word ∷ [])
 stand_tokens (in_rule sig grid rules d s) = before_side sig grid rules d ++ state_tokens sig s
+
+-- the stand behind some tokens
+abbrev pub reach : Limits → Stand → At → List Tok → Move
+reach m = reach_with (sheet_step m)
 
 -- the place behind one token more
 

@@ -7,13 +7,13 @@ use Rattle.reading.specs.declared.heading.Stage.TheVariants.{WantsName}
 use Rattle.reading.specs.Tokens.{Tok, tokens, origin}
 use Rattle.reading.specs.Laws.{Wrong}
 use Rattle.reading.proofs.Equal.{not_both, same_ok}
-use Rattle.reading.proofs.Running.{passed}
+use Rattle.reading.proofs.Running.{passed, reach_split, reach_first, Refuses}
 use Rattle.reading.specs.declared.fault.SheetFault.{SheetFault}
 use Rattle.sheet_reading.specs.Sheet.{Sheet, SheetShaped, Limits, limits, SheetWithin, sheet_text}
 use Rattle.sheet_reading.specs.Reading.{Stand, in_heading, sheet_step, sheet_end}
 use Rattle.sheet_reading.specs.Laws.{StuckAt}
 use Rattle.sheet_reading.proofs.SideFacts.{More, OfLimit}
-use Rattle.sheet_reading.proofs.Going.{reach, reach_split, reach_first, Refuses}
+use Rattle.sheet_reading.proofs.Stands.{reach}
 use Rattle.sheet_reading.proofs.Written.{tokens_sheet}
 use Rattle.sheet_reading.proofs.Back.{behind_sheet, sheet_back}
 use Rattle.sheet_reading.proofs.SideLimits.{Stays}
@@ -50,7 +50,7 @@ module _ (ks : List Tok) (s : Stand) (there : reach limits start origin ks ≡ O
   there_wide : (t : Sheet) → reach (wide t) start origin ks ≡ Ok s
   there_wide t = reached limits (wide t) (more_wide t) start origin ks s there
 
-  pub stuck : (w : Wrong) (f : SheetFault) → Refuses limits s (passed origin ks) w f → (OfLimit f → ⊥) → StuckAt ks w
+  pub stuck : (w : Wrong) (f : SheetFault) → Refuses (sheet_step limits) sheet_end s (passed origin ks) w f → (OfLimit f → ⊥) → StuckAt ks w
   stuck None f e free = λ b.
       let (t, h, q) = b in
       let same : s ≡ behind_sheet t = same_ok (sym (there_wide t) ∙ ap (reach (wide t) start origin) (sym q) ∙ read_wide t h) in
@@ -59,9 +59,9 @@ module _ (ks : List Tok) (s : Stand) (there : reach limits start origin ks ≡ O
       let (t, h, more) = b in
       let (rest, q) = more in
       let n : Limits = wide t in
-      let (v, x, y) = reach_split n start origin (ks ++ (k ∷ [])) rest (behind_sheet t) (ap (reach n start origin) (sym q) ∙ read_wide t h) in
-      let (u, i, j) = reach_split n start origin ks (k ∷ []) v x in
+      let (v, x, y) = reach_split (sheet_step n) start origin (ks ++ (k ∷ [])) rest (behind_sheet t) (ap (reach n start origin) (sym q) ∙ read_wide t h) in
+      let (u, i, j) = reach_split (sheet_step n) start origin ks (k ∷ []) v x in
       let same : u ≡ s = same_ok (sym i ∙ there_wide t) in
-      let (z, a, c) = reach_first n u (passed origin ks) k [] v j in
+      let (z, a, c) = reach_first (sheet_step n) u (passed origin ks) k [] v j in
       let refused : sheet_step n s (passed origin ks) k ≡ Err f = subst (λ r. Stays r (sheet_step n s (passed origin ks) k)) e (sheet_stays limits n (more_wide t) s (passed origin ks) k) free in
       not_both (sym a ∙ ap (λ x. sheet_step n x (passed origin ks) k) same ∙ refused)

@@ -10,15 +10,14 @@ use Rattle.reading.specs.Heading.{Head, Outcome, head_step}
 use Rattle.reading.specs.Laws.{Wrong}
 use Rattle.reading.proofs.Equal.{no_some, not_both, same_ok, same_fault}
 use Rattle.reading.proofs.Lines.{heading_tokens}
-use Rattle.reading.proofs.Running.{passed}
+use Rattle.reading.proofs.Running.{passed, reach_first, Refuses}
 use Rattle.reading.specs.declared.fault.SheetFault.{SheetFault}
 use Rattle.sheet_reading.specs.Sheet.{limits}
 use Rattle.sheet_reading.specs.Sides.{on_left, on_right}
 use Rattle.sheet_reading.specs.Reading.{Stand, in_heading, wants_value, has_value, has_word, in_rule, headed, sheet_step, rule_end, sheet_end}
 use Rattle.sheet_reading.specs.Laws.{Behind}
 use Rattle.sheet_reading.proofs.Tokens.{Lexed}
-use Rattle.sheet_reading.proofs.Going.{reach, reach_first, Refuses}
-use Rattle.sheet_reading.proofs.Stands.{head_tokens, before_side, stand_tokens, behind_past}
+use Rattle.sheet_reading.proofs.Stands.{reach, head_tokens, before_side, stand_tokens, behind_past}
 use Rattle.sheet_reading.proofs.Causes.{Cause}
 use Rattle.sheet_reading.proofs.SideTelling.{miscounted_opens}
 use Rattle.sheet_reading.proofs.Headings.{HeadGood, HeadSaid, said_head}
@@ -65,7 +64,7 @@ told_first s v u at k ks e z = record { is_good = z.is_good; so_far = z.so_far �
 pub tells : (s : Stand) (at : At) (ks : List Tok) (u : Stand) → AllByRecursion Lexed ks → Good s → Behind (stand_tokens s) at → reach limits s at ks ≡ Ok u → Told s at ks u
 tells s at [] u l g p e = subst (Told s at []) (same_ok e) (record { is_good = g; so_far = sym (append-nil (stand_tokens s)); place = p })
 tells s at (k ∷ ks) u l g p e =
-    let (v, q, r) = reach_first limits s at k ks u e in
+    let (v, q, r) = reach_first (sheet_step limits) s at k ks u e in
     let (a, b) = subst (Said s k) q (said s at k l.0 g p) in
     told_first s v u at k ks b (tells v (past at k) ks u l.1 a (behind_past (stand_tokens s) at k (stand_tokens v) p b) r)
 
@@ -86,6 +85,6 @@ ended (has_value sig grid vs) at f g p e o q = subst (Cause o _ None) (same_faul
 ended (has_word sig grid) at f g p e o q = subst (Cause o _ None) (same_fault e) p
 ended (in_rule sig grid rules d s) at f g p e o q = subst (λ x. Cause x (stand_tokens (in_rule sig grid rules d s)) None f) (sym q) (rule_ended sig grid rules d s at f g p e)
 
-pub cause : (s : Stand) (at : At) (w : Wrong) (f : SheetFault) → Good s → Behind (stand_tokens s) at → Refuses limits s at w f → ((k : Tok) → w ≡ Some k → Lexed k) → (o : Sig) → Over s o → Cause o (stand_tokens s) w f
+pub cause : (s : Stand) (at : At) (w : Wrong) (f : SheetFault) → Good s → Behind (stand_tokens s) at → Refuses (sheet_step limits) sheet_end s at w f → ((k : Tok) → w ≡ Some k → Lexed k) → (o : Sig) → Over s o → Cause o (stand_tokens s) w f
 cause s at None f g p e x o q = ended s at f g p e o q
 cause s at (Some k) f g p e x o q = subst (Said s k) e (said s at k (x k refl) g p) o q
