@@ -12,6 +12,7 @@ use Rattle.reading.specs.Reading.{Context, within, State, wants, opens, has, and
 use Rattle.reading.specs.Laws.{further_arguments, arguments_so_far}
 use Rattle.reading.proofs.Digits.{numbered_decimal}
 use Rattle.reading.proofs.Names.{found_name}
+use Rattle.terms.proofs.Readable.{ticket_term}
 use Rattle.reading.proofs.Lexing.{closing, tokens_term}
 use Rattle.reading.proofs.Running.{reach, passed, reach_join}
 
@@ -71,7 +72,7 @@ module _ {sig : Sig} (good : Declared sig) where
         let ks : List Tok = arguments_so_far sig ts ++ closing ts in
         let (m, e) = reads_arguments ts h.2 f at k (past at w) in (
           m,
-          ap (reach sig (wants k) at) (tokens_term good (apply f ts) h)
+          ap (reach sig (wants k) at) (tokens_term good (apply f ts) (ticket_term sig (apply f ts) h))
               ∙ ap (λ r. chain r (λ s. reach sig s (past at w) ks)) (name_step f h.0 k at)
               ∙ ap (λ n. reach sig (named f n at k) (past at w) ks) (sym h.1) ∙ e,
         )

@@ -1,5 +1,5 @@
 -- What reading a heading is.
-use Rattle.std.proofs.Common.{◌≡◌, ℕ, ◌≤◌, leb, List, [], ◌∷◌, length, Ok, Err, Result, sym, ap, ◌∙◌, subst}
+use Rattle.std.proofs.Common.{◌≡◌, ℕ, ◌≤◌, leb, List, [], ◌∷◌, length, Ok, Err, Result, sym, ap, ◌∙◌, subst, append-nil}
 use Rattle.std.specs.List.{AllByRecursion}
 use Rattle.std.proofs.lemmas.Bool.{cond_both, cond-true, le-leb}
 use Rattle.terms.specs.Signature.{Sig, Declared}
@@ -14,7 +14,7 @@ use Rattle.reading.specs.Reading.{chain}
 use Rattle.reading.specs.HeadingLaw.{OfHeading, HeadingLaw}
 use Rattle.reading.proofs.Equal.{not_both}
 use Rattle.reading.proofs.Tokens.{Lexed, tokens_lexed, whole_tokens}
-use Rattle.reading.proofs.Lines.{whole_heading, tokens_heading, heading_short}
+use Rattle.reading.proofs.Lines.{heading_tokens, whole_heading, tokens_heading, heading_short}
 use Rattle.reading.proofs.Counting.{Then, Counted, is_counted, GoesOn as CountGoesOn, count_goes_on}
 use Rattle.reading.proofs.Naming.{Named, is_named, GoesOn as NameGoesOn, name_goes_on, heading_told, heading_back}
 
@@ -64,7 +64,7 @@ module _ (b : List ℕ) (sig : Sig) where
   read_back good some few e =
       ap read_heading (sym e)
       ∙ cond-true (leb (length (heading_text sig)) sheet_limit) _ _ (le-leb (length (heading_text sig)) sheet_limit (heading_short good few))
-      ∙ ap (head_run 32 ([], WantsName) origin) (tokens_heading good)
+      ∙ ap (head_run 32 ([], WantsName) origin) (ap tokens (sym (append-nil (heading_text sig))) ∙ tokens_heading good [] ∙ append-nil (heading_tokens sig))
       ∙ heading_back sig origin good some few
 
 fair_heading : (b : List ℕ) → Fair (read_heading b)

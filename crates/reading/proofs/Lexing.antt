@@ -1,13 +1,13 @@
--- The tokens of a ticket's text.
-use Rattle.std.proofs.Common.{◌≡◌, ℕ, zero, suc, ◌-◌, ◌≤◌, Bool, true, false, ◌&&◌, leb, List, [], ◌∷◌, ◌++◌, length, decimal, sym, refl, ap, ◌∙◌, append_assoc, append-nil, arith, length-append}
+-- The tokens of a term's text.
+use Rattle.std.proofs.Common.{◌≡◌, ℕ, zero, suc, ◌-◌, ◌≤◌, Bool, true, false, ◌&&◌, leb, List, [], ◌∷◌, ◌++◌, length, decimal, sym, refl, ap, ◌∙◌, append_assoc, append-nil, arith, length-append, ◌+◌, ◌%◌, ◌<◌, mod-eq_of_lt}
 use Rattle.std.specs.List.{AllByRecursion}
-use Rattle.std.proofs.lemmas.Bool.{false≢true, cond-true, cond-false, or_parts, and_parts, leb-true}
+use Rattle.std.proofs.lemmas.Bool.{false≢true, cond-true, cond-false, or_parts, and_parts, leb-true, and_from, and_left, and_right, le-leb, lt-leb, ne_eqb}
 use Rattle.terms.specs.Term.{Term, variable, instrument, apply, Terms, nil, cons}
 use Rattle.terms.specs.Signature.{Sig, op_of, lower, digit, word, all_words, spelt, Declared}
-use Rattle.terms.specs.Ticket.{Ticket, Tickets}
+use Rattle.terms.specs.Ticket.{Ticket, Tickets, TermOf, TermsOf}
 use Rattle.terms.specs.Text.{text_of, arguments_text, others_text}
 use Rattle.reading.specs.declared.token.Mark.TheVariants.{Opening, Closing, Comma}
-use Rattle.reading.specs.Tokens.{Tok, a_name, an_instrument, a_mark, front, first_token, token_bytes, tokens_from, tokens}
+use Rattle.reading.specs.Tokens.{Tok, a_name, an_instrument, a_mark, front, first_token, token_bytes, tokens_from, tokens, a_variable}
 use Rattle.reading.specs.Laws.{AllDigits, further_arguments, arguments_so_far}
 use Rattle.reading.proofs.Digits.{all_digits_decimal}
 
@@ -64,9 +64,23 @@ abbrev pub closing : Terms → List Tok
 closing nil = []
 closing (cons t ts) = a_mark Closing ∷ []
 
--- the tokens of a ticket, by its parts
+-- 'A' to 'H'
+letter : (x : ℕ) → x < 8 → (leb 65 (65 + x) && leb (65 + x) 72) ≡ true
+letter x h = and_from _ _ (le-leb 65 (65 + x) (omega arith)) (le-leb (65 + x) 72 (omega arith))
+
+first_variable : (x : ℕ) (r : List ℕ) → x < 8 → first_token (65 + x) r ≡ a_variable x
+first_variable x r h =
+    cond-false _ _ _ (and_left (leb 97 (65 + x)) _ (lt-leb 97 (65 + x) (omega arith)))
+    ∙ cond-false _ _ _ (and_right _ (leb (65 + x) 57) (lt-leb (65 + x) 57 (omega arith)))
+    ∙ cond-false _ _ _ (ne_eqb (65 + x) 35 (λ e. omega arith))
+    ∙ cond-true _ _ _ (letter x h) ∙ ap a_variable (omega arith)
+
+tokens_variable : (x : ℕ) (r : List ℕ) → x < 8 → tokens ((65 + x % 16) ∷ r) ≡ a_variable x ∷ tokens r
+tokens_variable x r h = ap (λ n. tokens ((65 + n) ∷ r)) (mod-eq_of_lt {n = x} {m = 16} (omega arith)) ∙ tokens_first (65 + x) [] r (a_variable x) (first_variable x r h) refl
+
+-- the tokens of a term, by its parts
 abbrev pub parts : Sig → Term → List Tok
-parts sig (variable x) = []
+parts sig (variable x) = a_variable x ∷ []
 parts sig (instrument n) = an_instrument (35 ∷ decimal n) ∷ []
 parts sig (apply f ts) = a_name (op_of sig f).name ∷ (arguments_so_far sig ts ++ closing ts)
 
@@ -93,8 +107,8 @@ lexes_row sig t ks ts h j r =
 
 module _ {sig : Sig} (good : Declared sig) where
   mutual
-    lexes_term : (t : Term) → Ticket sig t → Lexes (text_of sig t) (parts sig t)
-    lexes_term (variable x) h r s = absurd h
+    lexes_term : (t : Term) → TermOf sig t → Lexes (text_of sig t) (parts sig t)
+    lexes_term (variable x) h r s = tokens_variable x r h
     lexes_term (instrument n) h r s = tokens_instrument (decimal n) r (all_digits_decimal n (omega arith)) s
     lexes_term (apply f ts) h r s =
         let w : List ℕ = (op_of sig f).name in
@@ -102,13 +116,17 @@ module _ {sig : Sig} (good : Declared sig) where
         ∙ tokens_name w (arguments_text sig ts ++ r) (good.are_spelt f h.0) (stops_arguments sig ts r s)
         ∙ ap (λ l. a_name w ∷ l) (lexes_arguments ts h.2 r)
 
-    lexes_arguments : (ts : Terms) → Tickets sig ts → LexesOn (arguments_text sig ts) (arguments_so_far sig ts ++ closing ts)
+    lexes_arguments : (ts : Terms) → TermsOf sig ts → LexesOn (arguments_text sig ts) (arguments_so_far sig ts ++ closing ts)
     lexes_arguments nil h r = refl
     lexes_arguments (cons t ts) h r = ap (λ l. a_mark Opening ∷ l) (lexes_row sig t (parts sig t) ts (lexes_term t h.0) (lexes_others ts h.1) r)
 
-    lexes_others : (ts : Terms) → Tickets sig ts → LexesOn (others_text sig ts) (further_arguments sig ts ++ (a_mark Closing ∷ []))
+    lexes_others : (ts : Terms) → TermsOf sig ts → LexesOn (others_text sig ts) (further_arguments sig ts ++ (a_mark Closing ∷ []))
     lexes_others nil h r = refl
     lexes_others (cons t ts) h r = ap (λ l. a_mark Comma ∷ l) (lexes_row sig t (parts sig t) ts (lexes_term t h.0) (lexes_others ts h.1) r)
 
-  pub tokens_term : (t : Term) → Ticket sig t → tokens (text_of sig t) ≡ parts sig t
+  pub tokens_term : (t : Term) → TermOf sig t → tokens (text_of sig t) ≡ parts sig t
   tokens_term t h = lexes_alone (text_of sig t) (parts sig t) (lexes_term t h)
+
+  -- and before what does not go on with it
+  pub tokens_before : (t : Term) → TermOf sig t → (r : List ℕ) → Stops word r → tokens (text_of sig t ++ r) ≡ tokens (text_of sig t) ++ tokens r
+  tokens_before t h r s = lexes_term t h r s ∙ ap (λ l. l ++ tokens r) (sym (tokens_term t h))

@@ -6,6 +6,7 @@ pub mod Lexing
 pub mod Running
 pub mod Back
 pub mod States
+pub mod Growing
 pub mod Telling
 pub mod Completing
 pub mod Taking

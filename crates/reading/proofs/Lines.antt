@@ -1,4 +1,4 @@
--- The tokens of a heading: two lines, with blanks between.
+-- The tokens of a line, with blanks between, and of the two lines of a heading.
 use Rattle.std.proofs.Common.{◌≡◌, ℕ, ◌+◌, ◌*◌, ◌<◌, ◌≤◌, true, false, leb, List, [], ◌∷◌, ◌++◌, map, length, decimal, sym, refl, ap, ◌∙◌, append_assoc, append-nil, arith, length-append}
 use Rattle.std.specs.List.{AllByRecursion}
 use Rattle.std.proofs.lemmas.Fmt.{decimal_nonempty, decimal_digit}
@@ -56,17 +56,17 @@ tokens_number (b ∷ bs) r n h e =
     tokens_first b bs r (a_number (b ∷ bs))
     (cond-false _ _ _ (digit_not_lower b h.0) ∙ cond-true _ _ _ h.0 ∙ ap (λ l. a_number (b ∷ l)) (front_is digit (length (bs ++ r)) bs r h.1 (omega (arith, length-append bs r)) (stops_digit r e))) refl
 
--- an operator's token is read, whatever follows that does not go on with it
-abbrev Shows : (Op → List ℕ) → (Op → Tok) → Op → Type 0
-Shows show k o = (r : List ℕ) → Stops word r → tokens (show o ++ r) ≡ k o ∷ tokens r
+-- a part's token is read, whatever follows that does not go on with it
+abbrev pub Shows : {A : Type 0} → (A → List ℕ) → (A → Tok) → A → Type 0
+Shows show k x = (r : List ℕ) → Stops word r → tokens (show x ++ r) ≡ k x ∷ tokens r
 
-tokens_line : (show : Op → List ℕ) (k : Op → Tok) (sig : Sig) → AllByRecursion (Shows show k) sig → (r : List ℕ) → tokens (line_of show sig ++ r) ≡ line (map k sig) ++ tokens r
+pub tokens_line : {A : Type 0} (show : A → List ℕ) (k : A → Tok) (xs : List A) → AllByRecursion (Shows show k) xs → (r : List ℕ) → tokens (line_of show xs ++ r) ≡ line (map k xs) ++ tokens r
 tokens_line show k [] h r = refl
-tokens_line show k (o ∷ []) h r = ap tokens (append_assoc (show o) (10 ∷ []) r) ∙ h.0 (10 ∷ r) refl
-tokens_line show k (o ∷ p ∷ os) h r =
-    ap tokens (append_assoc (show o) (32 ∷ line_of show (p ∷ os)) r)
-    ∙ h.0 (32 ∷ (line_of show (p ∷ os) ++ r)) refl
-    ∙ ap (λ l. k o ∷ (a_mark Blank ∷ l)) (tokens_line show k (p ∷ os) h.1 r)
+tokens_line show k (x ∷ []) h r = ap tokens (append_assoc (show x) (10 ∷ []) r) ∙ h.0 (10 ∷ r) refl
+tokens_line show k (x ∷ y ∷ xs) h r =
+    ap tokens (append_assoc (show x) (32 ∷ line_of show (y ∷ xs)) r)
+    ∙ h.0 (32 ∷ (line_of show (y ∷ xs) ++ r)) refl
+    ∙ ap (λ l. k x ∷ (a_mark Blank ∷ l)) (tokens_line show k (y ∷ xs) h.1 r)
 
 module _ {sig : Sig} (good : Declared sig) where
   all_spelt : AllByRecursion (λ o. spelt o.name ≡ true) sig
@@ -75,13 +75,15 @@ module _ {sig : Sig} (good : Declared sig) where
   pub all_ranked : AllByRecursion (λ o. o.arity ≤ 3) sig
   all_ranked = All-from_get_or (λ o. o.arity ≤ 3) sig _ good.are_ranked
 
-  pub tokens_heading : tokens (heading_text sig) ≡ heading_tokens sig
-  tokens_heading =
+  pub tokens_heading : (r : List ℕ) → tokens (heading_text sig ++ r) ≡ heading_tokens sig ++ tokens r
+  tokens_heading r =
       let names : AllByRecursion (Shows (λ o. o.name) name_tok) sig = All-weaker (λ o. spelt o.name ≡ true) (Shows (λ o. o.name) name_tok) (λ o h r e. tokens_name o.name r h e) sig all_spelt in
       let counts : AllByRecursion (Shows (λ o. decimal o.arity) count_tok) sig = All-weaker (λ o. o.arity ≤ 3) (Shows (λ o. decimal o.arity) count_tok)
       (λ o h r e. tokens_number (decimal o.arity) r (decimal_nonempty o.arity (omega arith)) (all_digits_decimal o.arity (omega arith)) e) sig all_ranked in
-      tokens_line (λ o. o.name) name_tok sig names (line_of (λ o. decimal o.arity) sig)
-      ∙ ap (λ l. line (map name_tok sig) ++ l) (ap tokens (sym (append-nil (line_of (λ o. decimal o.arity) sig))) ∙ tokens_line (λ o. decimal o.arity) count_tok sig counts [] ∙ append-nil (line (map count_tok sig)))
+      ap tokens (append_assoc (line_of (λ o. o.name) sig) (line_of (λ o. decimal o.arity) sig) r)
+      ∙ tokens_line (λ o. o.name) name_tok sig names (line_of (λ o. decimal o.arity) sig ++ r)
+      ∙ ap (λ l. line (map name_tok sig) ++ l) (tokens_line (λ o. decimal o.arity) count_tok sig counts r)
+      ∙ sym (append_assoc (line (map name_tok sig)) (line (map count_tok sig)) (tokens r))
 
 -- and is short
 

@@ -17,6 +17,8 @@ use Rattle.reading.proofs.Digits.{instrument_is}
 use Rattle.reading.proofs.Names.{found_is}
 use Rattle.reading.proofs.Tokens.{Lexed}
 use Rattle.reading.proofs.Lexing.{tokens_term}
+use Rattle.reading.proofs.Growing.{name_alone, tokens_opened, tokens_closed, tokens_continued}
+use Rattle.terms.proofs.Readable.{ticket_term}
 use Rattle.reading.proofs.Equal.{same_ok}
 use Rattle.reading.proofs.Running.{reach, passed, reach_first}
 use Rattle.reading.proofs.States.{name_of, stack_tokens, state_tokens, arguments_then, awaiting_then, closing_then, ContextGood, Good, frame_next, frame_full}
@@ -37,11 +39,8 @@ Keeps sig s k (Ok s') = Good sig s' × (state_tokens sig s' ≡ state_tokens sig
 Keeps sig s k (Err f) = Unit {0}
 
 module _ {sig : Sig} (good : Declared sig) where
-  name_alone : (f : ℕ) → f < length sig → 0 ≡ (op_of sig f).arity → tokens (text_of sig (apply f nil)) ≡ name_of sig f ∷ []
-  name_alone f h e = tokens_term good (apply f nil) (h, e, tt)
-
   named_keeps : (k : Context) (f n : ℕ) (at : At) → ContextGood sig k → Behind (stack_tokens sig k) at → f < length sig → n ≡ (op_of sig f).arity → Keeps sig (wants k) (name_of sig f) (Ok (named f n at k))
-  named_keeps k f zero at g p h e = (((h, e, tt), g, (f, refl, p)), ap (λ l. stack_tokens sig k ++ l) (name_alone f h e), refl)
+  named_keeps k f zero at g p h e = (((h, e, tt), g, (f, refl, p)), ap (λ l. stack_tokens sig k ++ l) (name_alone good f h e), refl)
   named_keeps k f (suc n) at g p h e = ((record { declared = h; counted = omega arith; tickets = tt; placed = p }, g), refl, refl)
 
   name_keeps : (k : Context) (s : List ℕ) (at : At) (o : Option ℕ) → found sig s ≡ o → ContextGood sig k → Behind (stack_tokens sig k) at → Keeps sig (wants k) (a_name s) (with_name sig o at k)
@@ -59,27 +58,17 @@ module _ {sig : Sig} (good : Declared sig) where
   closed_keeps : (t : Term) (m : Option At) (k : Context) (at : At) → Good sig (has t m k) → Keeps sig (has t m k) (a_mark Closing) (closed t k at)
   closed_keeps t m top at g = tt
   closed_keeps t m (within f a ts zero k) at g =
-      let h : Ticket sig (apply f (and_then ts t)) = frame_full t g.1.0 g.0 in (
-        (h, g.1.1, tt),
-        ap (λ l. stack_tokens sig k ++ l) (tokens_term good (apply f (and_then ts t)) h)
-            ∙ ap (λ l. stack_tokens sig k ++ (name_of sig f ∷ (arguments_so_far sig (and_then ts t) ++ l))) (closing_then ts t)
-            ∙ ap (λ l. stack_tokens sig k ++ (name_of sig f ∷ (l ++ (a_mark Closing ∷ [])))) (arguments_then sig ts t) ∙ simp append_assoc,
-        refl,
-      )
+      let h : Ticket sig (apply f (and_then ts t)) = frame_full t g.1.0 g.0 in
+      ((h, g.1.1, tt), tokens_closed good f a ts t m k (ticket_term sig (apply f (and_then ts t)) h), refl)
   closed_keeps t m (within f a ts (suc n) k) at g = tt
 
   continued_keeps : (t : Term) (m : Option At) (k : Context) (at : At) → Good sig (has t m k) → Keeps sig (has t m k) (a_mark Comma) (continued t k at)
   continued_keeps t m top at g = tt
   continued_keeps t m (within f a ts zero k) at g = tt
-  continued_keeps t m (within f a ts (suc n) k) at g = (
-    (frame_next t g.1.0 g.0, g.1.1),
-    ap (λ l. stack_tokens sig k ++ (name_of sig f ∷ l)) (awaiting_then sig ts t)
-        ∙ ap (λ l. stack_tokens sig k ++ (name_of sig f ∷ (l ++ (a_mark Comma ∷ [])))) (arguments_then sig ts t) ∙ simp append_assoc,
-    refl,
-  )
+  continued_keeps t m (within f a ts (suc n) k) at g = ((frame_next t g.1.0 g.0, g.1.1), tokens_continued good f a ts t m n k, refl)
 
   mark_opens : (m : Mark) (f : ℕ) (a : At) (n : ℕ) (k : Context) → Good sig (opens f a n k) → Keeps sig (opens f a n k) (a_mark m) (on_opens_mark m f a n k)
-  mark_opens Opening f a n k g = (g, sym (append_assoc (stack_tokens sig k) (name_of sig f ∷ []) (a_mark Opening ∷ [])), refl)
+  mark_opens Opening f a n k g = (g, tokens_opened good f a n k, refl)
   mark_opens Closing f a n k g = tt
   mark_opens Comma f a n k g = tt
   mark_opens Equals f a n k g = tt

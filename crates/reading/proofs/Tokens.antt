@@ -1,5 +1,5 @@
--- The tokens of a text are its parts; names are spelt, numbers are digits, and instruments have digits behind '#'.
-use Rattle.std.proofs.Common.{◌≡◌, ℕ, zero, suc, ◌+◌, ◌-◌, ◌≤◌, Bool, true, ◌&&◌, eqb, leb, List, [], ◌∷◌, ◌++◌, length, drop, Some, sym, refl, ap, ◌∙◌, subst, arith, length-append}
+-- The tokens of a text are its parts: a name is spelt as one, a number is digits, an instrument has digits behind '#', and a variable is one of eight.
+use Rattle.std.proofs.Common.{◌≡◌, ℕ, zero, suc, ◌+◌, ◌-◌, ◌<◌, ◌≤◌, Bool, true, ◌&&◌, eqb, leb, List, [], ◌∷◌, ◌++◌, length, drop, Some, sym, refl, ap, ◌∙◌, subst, arith, length-append}
 use Rattle.std.specs.List.{AllByRecursion}
 use Rattle.std.proofs.lemmas.Bool.{cond_both, eqb-true, leb-true, le-leb, and_parts, and_from}
 use Rattle.terms.specs.Signature.{lower, digit, word, all_words, spelt}
@@ -32,12 +32,11 @@ name_spelt b bs l =
     let w : List ℕ = front word 11 bs in
     and_from (lower b) _ l (and_from (all_words w) _ (words_from_all w (front_all word 11 bs)) (le-leb (length w) 11 (front_short word 11 bs)))
 
--- a name is spelt as one, a number is digits, an instrument is '#' and digits
 abbrev pub Lexed : Tok → Type 0
 Lexed (a_name s) = spelt s ≡ true
 Lexed (a_number s) = AllByRecursion (λ d. digit d ≡ true) s
 Lexed (an_instrument s) = AllByRecursion (λ d. digit d ≡ true) (drop 1 s)
-Lexed (a_variable x) = Unit {0}
+Lexed (a_variable x) = x < 8
 Lexed (a_mark m) = Unit {0}
 Lexed (a_stray b) = Unit {0}
 
@@ -55,7 +54,11 @@ marked : (b : ℕ) (bs : List ℕ) (m : Mark) → eqb b (mark_byte m) ≡ true �
 marked b bs m e = by_itself b bs (a_mark m) tt (ap (λ x. x ∷ []) (sym (eqb-true b (mark_byte m) e)))
 
 lettered : (b : ℕ) (bs : List ℕ) → (leb 65 b && leb b 72) ≡ true → Part b bs (a_variable (b - 65))
-lettered b bs e = let h = leb-true 65 b (and_parts (leb 65 b) (leb b 72) e).0 in by_itself b bs (a_variable (b - 65)) tt (ap (λ x. x ∷ []) (omega arith))
+lettered b bs e =
+    let (p, q) = and_parts (leb 65 b) (leb b 72) e in
+    let h = leb-true 65 b p in
+    let j = leb-true b 72 q in
+    by_itself b bs (a_variable (b - 65)) (omega arith) (ap (λ x. x ∷ []) (omega arith))
 
 single_part : (b : ℕ) (bs : List ℕ) → Part b bs (single b)
 single_part b bs =

@@ -10,11 +10,10 @@ use Rattle.reading.specs.declared.token.Mark.TheVariants.{Opening, Closing, Comm
 use Rattle.reading.specs.Tokens.{Tok, a_name, an_instrument, a_variable, a_mark, tokens}
 use Rattle.reading.specs.Reading.{Context, top, within}
 use Rattle.reading.specs.Laws.{further_arguments, arguments_so_far}
-use Rattle.reading.proofs.Lexing.{closing}
+use Rattle.reading.proofs.Lexing.{closing, parts, tokens_term}
 use Rattle.reading.proofs.States.{name_of, awaiting, stack_tokens}
 use Rattle.sheet_reading.specs.Sides.{symbols_before, depth, occurrences_before}
 use Rattle.sheet_reading.specs.Laws.{count, symbol, mark, the_variable}
-use Rattle.sheet_reading.proofs.Lexing.{parts, tokens_term}
 use Rattle.sheet_reading.proofs.SideStates.{ContextShaped}
 
 pub count_append : (f : Tok → ℕ) (ks ls : List Tok) → count f (ks ++ ls) ≡ count f ks + count f ls

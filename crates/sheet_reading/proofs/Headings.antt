@@ -15,7 +15,7 @@ use Rattle.reading.specs.Laws.{AllDigits}
 use Rattle.reading.proofs.Digits.{numbers}
 use Rattle.reading.proofs.Lines.{line, name_tok, count_tok}
 use Rattle.sheet_reading.specs.Laws.{Behind, many_names}
-use Rattle.sheet_reading.proofs.Tokens.{Lexed}
+use Rattle.reading.proofs.Tokens.{Lexed}
 use Rattle.sheet_reading.proofs.Stands.{blanked, spaced, spaced_push, spaced_blank, spaced_end, names_blanked, head_tokens}
 use Rattle.sheet_reading.proofs.Causes.{Cause, not_here_cause}
 

@@ -1,7 +1,3 @@
-pub mod Tokens
-pub mod Lexing
-pub mod Lines
-pub mod Growing
 pub mod SideFacts
 pub mod SideStates
 pub mod Counting

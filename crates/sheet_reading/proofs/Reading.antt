@@ -9,7 +9,7 @@ use Rattle.reading.specs.Reading.{top, within, wants, opens, has, chain}
 use Rattle.reading.specs.Heading.{sheet_limit}
 use Rattle.reading.specs.Laws.{Wrong, first_of}
 use Rattle.reading.proofs.Equal.{no_some, same_some, not_both, same_ok}
-use Rattle.reading.proofs.Tokens.{whole_tokens}
+use Rattle.reading.proofs.Tokens.{whole_tokens, Lexed, tokens_lexed}
 use Rattle.reading.proofs.Running.{passed, run_on, run_ends, run_stops}
 use Rattle.reading.specs.declared.fault.SheetFault.{SheetFault}
 use Rattle.reading.specs.declared.fault.SheetFault.TheVariants.{Text}
@@ -17,7 +17,6 @@ use Rattle.sheet_reading.specs.Sheet.{Sheet, SheetShaped, limits, SheetWithin, s
 use Rattle.sheet_reading.specs.Sides.{on_left, on_right}
 use Rattle.sheet_reading.specs.Reading.{Stand, in_heading, wants_value, has_value, has_word, in_rule, rule_end, sheet_step, sheet_end, sheet_run, read_sheet}
 use Rattle.sheet_reading.specs.Laws.{FirstWrong, Explained, SheetLaw}
-use Rattle.sheet_reading.proofs.Tokens.{Lexed, tokens_lexed}
 use Rattle.sheet_reading.proofs.Stands.{reach}
 use Rattle.sheet_reading.proofs.Written.{tokens_sheet}
 use Rattle.sheet_reading.proofs.Causes.{Cause, refused_for}

@@ -23,7 +23,7 @@ use Rattle.sheet_reading.specs.Sheet.{SheetShaped, Limits, limits}
 use Rattle.sheet_reading.specs.Sides.{Hand, on_left, on_right, room, within_room, in_text, fronted, variable_on, side_step}
 use Rattle.sheet_reading.specs.Reading.{in_rule, Move, ends_side, behind_side, in_side, on_rule}
 use Rattle.sheet_reading.specs.Laws.{Behind, WholeSheet, LeftSide, BeforeSide, BeyondLimit, many_rules, many_symbols, many_levels}
-use Rattle.sheet_reading.proofs.Tokens.{Lexed}
+use Rattle.reading.proofs.Tokens.{Lexed}
 use Rattle.sheet_reading.proofs.SideFacts.{LeftShaped, RightShaped, TextReason, SideReason}
 use Rattle.sheet_reading.proofs.Stands.{front_tokens, the_word, rule_tokens, rules_tokens, rules_push, sheet_tokens, sheet_of, before_side, stand_tokens}
 use Rattle.sheet_reading.proofs.Written.{tokens_sheet}

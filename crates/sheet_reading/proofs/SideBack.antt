@@ -14,13 +14,12 @@ use Rattle.reading.specs.Tokens.{Tok, a_name, a_mark, tokens, past}
 use Rattle.reading.specs.Reading.{Context, top, within, State, wants, has, and_then, named, with_number, chain}
 use Rattle.reading.specs.Laws.{further_arguments, arguments_so_far}
 use Rattle.reading.proofs.Digits.{numbered_decimal}
-use Rattle.reading.proofs.Lexing.{closing}
+use Rattle.reading.proofs.Lexing.{closing, tokens_term}
 use Rattle.reading.proofs.Running.{passed, reach_join}
 use Rattle.reading.proofs.Back.{ComesTo, join, join_then, then_join, name_step}
 use Rattle.reading.specs.declared.fault.SheetFault.{SheetFault}
 use Rattle.sheet_reading.specs.Sheet.{Limits, SideWithin}
 use Rattle.sheet_reading.specs.Sides.{Hand, on_left, on_right, symbols_before, depth, occurrences_before, room, within_room, in_text, fronted, variable_on, side_step}
-use Rattle.sheet_reading.proofs.Lexing.{tokens_term}
 use Rattle.sheet_reading.proofs.SideFacts.{HandShaped, side_reach}
 use Rattle.sheet_reading.proofs.SideStates.{MayStand, Fronted}
 use Rattle.sheet_reading.proofs.SideSteps.{front_within}

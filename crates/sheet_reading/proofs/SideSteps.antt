@@ -10,8 +10,8 @@ use Rattle.reading.specs.Reading.{Context, top, within, State, wants, opens, has
 use Rattle.reading.proofs.States.{name_of, stack_tokens, state_tokens}
 use Rattle.sheet_reading.specs.Sides.{Hand, on_left, on_right}
 use Rattle.sheet_reading.specs.Laws.{count, the_variable, Behind}
-use Rattle.sheet_reading.proofs.Lexing.{tokens_term}
-use Rattle.sheet_reading.proofs.Growing.{name_alone, tokens_opened, tokens_closed, tokens_continued}
+use Rattle.reading.proofs.Lexing.{tokens_term}
+use Rattle.reading.proofs.Growing.{name_alone, tokens_opened, tokens_closed, tokens_continued}
 use Rattle.sheet_reading.proofs.SideStates.{StateShaped, frame_next, frame_full, MayStand, Fronted, Begun}
 use Rattle.sheet_reading.proofs.Counting.{count_then}
 

@@ -25,8 +25,8 @@ use Rattle.sheet_reading.specs.Sheet.{Limits}
 use Rattle.sheet_reading.specs.Sides.{Hand, on_left, on_right, symbols_before, depth, occurrences_before, room, within_room, in_text, fronted, variable_on, side_step}
 use Rattle.sheet_reading.specs.Reading.{is_mark}
 use Rattle.sheet_reading.specs.Laws.{count, symbol, the_variable, Behind, Miscounted}
-use Rattle.sheet_reading.proofs.Tokens.{Lexed}
-use Rattle.sheet_reading.proofs.Lexing.{tokens_term}
+use Rattle.reading.proofs.Tokens.{Lexed}
+use Rattle.reading.proofs.Lexing.{tokens_term}
 use Rattle.sheet_reading.proofs.SideFacts.{TextReason, SideReason}
 use Rattle.sheet_reading.proofs.SideStates.{Frame, Placed, ContextShaped, terms_then, StateLow, depth_low, levels_then, MayStand, Fronted, Good}
 use Rattle.sheet_reading.proofs.SideSteps.{GoesOn, goes_named, goes_instrument, goes_opened, goes_closed, goes_continued}

@@ -16,7 +16,7 @@ use Rattle.sheet_reading.specs.Sheet.{limits}
 use Rattle.sheet_reading.specs.Sides.{on_left, on_right}
 use Rattle.sheet_reading.specs.Reading.{Stand, in_heading, wants_value, has_value, has_word, in_rule, headed, sheet_step, rule_end, sheet_end}
 use Rattle.sheet_reading.specs.Laws.{Behind}
-use Rattle.sheet_reading.proofs.Tokens.{Lexed}
+use Rattle.reading.proofs.Tokens.{Lexed}
 use Rattle.sheet_reading.proofs.Stands.{reach, head_tokens, before_side, stand_tokens, behind_past}
 use Rattle.sheet_reading.proofs.Causes.{Cause}
 use Rattle.sheet_reading.proofs.SideTelling.{miscounted_opens}

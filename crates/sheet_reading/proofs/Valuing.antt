@@ -19,7 +19,7 @@ use Rattle.sheet_reading.specs.Sheet.{limits}
 use Rattle.sheet_reading.specs.Sides.{on_left}
 use Rattle.sheet_reading.specs.Reading.{is_mark, is_word, wants_value, has_value, has_word, from_least, value_of, rules_may_come, on_line, behind_value, behind_word}
 use Rattle.sheet_reading.specs.Laws.{Behind}
-use Rattle.sheet_reading.proofs.Tokens.{Lexed}
+use Rattle.reading.proofs.Tokens.{Lexed}
 use Rattle.sheet_reading.proofs.Stands.{blanked, spaced, spaced_push, spaced_blank, spaced_end, value_tok, grid_tokens, front_tokens, the_word, grid_append, before_side, stand_tokens}
 use Rattle.sheet_reading.proofs.Causes.{Cause, not_here_cause}
 use Rattle.sheet_reading.proofs.SideTelling.{starts}

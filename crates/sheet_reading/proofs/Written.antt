@@ -8,12 +8,11 @@ use Rattle.terms.specs.Text.{text_of}
 use Rattle.reading.specs.declared.token.Mark.TheVariants.{Equals, LineEnd}
 use Rattle.reading.specs.Tokens.{a_mark, tokens}
 use Rattle.reading.proofs.Digits.{all_digits_decimal}
-use Rattle.reading.proofs.Lines.{line, heading_tokens, tokens_number}
+use Rattle.reading.proofs.Lines.{line, heading_tokens, tokens_number, Shows, tokens_line, tokens_heading}
 use Rattle.reading.specs.Heading.{line_of}
 use Rattle.sheet_reading.specs.Values.{Value, Grid, value_text, range_of, ValueIn, LineIn, GridIn, grid_text}
 use Rattle.sheet_reading.specs.Sheet.{Sheet, SheetShaped, rule_text, rules_text, sheet_text}
-use Rattle.sheet_reading.proofs.Lexing.{tokens_before}
-use Rattle.sheet_reading.proofs.Lines.{Shows, tokens_line, tokens_heading}
+use Rattle.reading.proofs.Lexing.{tokens_before}
 use Rattle.sheet_reading.proofs.Ranges.{Small, range_small}
 use Rattle.sheet_reading.proofs.Stands.{value_tok, grid_tokens, rule_tokens, rules_tokens, front_tokens, the_word, sheet_tokens}
 

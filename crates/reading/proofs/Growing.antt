@@ -10,7 +10,7 @@ use Rattle.reading.specs.Tokens.{a_mark, tokens}
 use Rattle.reading.specs.Reading.{Context, within, wants, opens, has, and_then}
 use Rattle.reading.specs.Laws.{arguments_so_far}
 use Rattle.reading.proofs.States.{name_of, stack_tokens, state_tokens, arguments_then, awaiting_then, closing_then}
-use Rattle.sheet_reading.proofs.Lexing.{tokens_term}
+use Rattle.reading.proofs.Lexing.{tokens_term}
 
 module _ {sig : Sig} (good : Declared sig) where
   pub name_alone : (f : ℕ) → f < length sig → 0 ≡ (op_of sig f).arity → tokens (text_of sig (apply f nil)) ≡ name_of sig f ∷ []
