@@ -1,5 +1,5 @@
 -- What reading a heading is.
-use Rattle.std.proofs.Common.{◌≡◌, ℕ, ◌≤◌, leb, List, [], ◌∷◌, length, Ok, Err, Result, sym, ap, ◌∙◌, subst, append-nil}
+use Rattle.std.proofs.Common.{◌≡◌, ℕ, ◌≤◌, leb, List, [], ◌∷◌, ◌++◌, length, Ok, Err, Result, sym, refl, ap, ◌∙◌, subst, append-nil, take, Some, None, drop}
 use Rattle.std.specs.List.{AllByRecursion}
 use Rattle.std.proofs.lemmas.Bool.{cond_both, cond-true, le-leb}
 use Rattle.terms.specs.Signature.{Sig, Declared}
@@ -9,67 +9,87 @@ use Rattle.reading.specs.declared.fault.TextFault.TheVariants.{PastLimit}
 use Rattle.reading.specs.declared.fault.SheetFault.{SheetFault}
 use Rattle.reading.specs.declared.fault.SheetFault.TheVariants.{Text}
 use Rattle.reading.specs.Tokens.{Tok, tokens, whole, origin, past}
-use Rattle.reading.specs.Heading.{Head, Outcome, head_step, head_run, sheet_limit, read_heading, heading_text}
-use Rattle.reading.specs.Reading.{chain}
+use Rattle.reading.specs.Heading.{Head, head_step, head_end, head_run, sheet_limit, read_heading, heading_text}
 use Rattle.reading.specs.HeadingLaw.{OfHeading, HeadingLaw}
-use Rattle.reading.proofs.Equal.{not_both}
-use Rattle.reading.proofs.Tokens.{Lexed, tokens_lexed, whole_tokens}
+use Rattle.reading.specs.Laws.{Wrong, first_of}
+use Rattle.reading.proofs.Equal.{not_both, same_ok, same_fault}
+use Rattle.reading.proofs.Tokens.{Lexed, tokens_lexed, whole_tokens, first_lexed}
 use Rattle.reading.proofs.Lines.{heading_tokens, whole_heading, tokens_heading, heading_short}
-use Rattle.reading.proofs.Counting.{Then, Counted, is_counted, GoesOn as CountGoesOn, count_goes_on}
-use Rattle.reading.proofs.Naming.{Named, is_named, GoesOn as NameGoesOn, name_goes_on, heading_told, heading_back}
+use Rattle.reading.proofs.Running.{reach_with, passed, all_along, run_ends, run_on, run_stops, Refuses}
+use Rattle.reading.proofs.Heads.{head_tokens, HeadReason, not_allowed, many_names, named_twice, bad_count, HeadGood, HeadSaid, said_head, none}
+use Rattle.reading.proofs.HeadingBack.{heading_back}
+use Rattle.std.proofs.ByRecursion.{All-take, All-drop}
 
--- a fault is one of a heading
-abbrev Fair : {A : Type 0} → Result A SheetFault → Type 0
-Fair (Ok x) = Unit {0}
-Fair (Err f) = OfHeading f
+-- the heading that is read so far
+abbrev Told : Head → List Tok → At → Type 0
+Told h ks at = HeadGood 32 h × (head_tokens h ≡ ks)
 
-fair : (P : Head → Type 0) (r : Outcome) → Then P r → Fair r
-fair P (Ok h) t = tt
-fair P (Err f) t = t
+told_next : (h : Head) (ks : List Tok) (at : At) (k : Tok) (g : Head) → Lexed k → Told h ks at → head_step 32 h at k ≡ Ok g → Told g (ks ++ (k ∷ [])) (past at k)
+told_next h ks at k g l t e =
+    let (a, b) = subst (HeadSaid 32 h k at) e (said_head 32 h at k l t.0) in
+    (a, b ∙ ap (λ js. js ++ (k ∷ [])) t.1)
 
-fair_step : (h : Head) (at : At) (k : Tok) → Lexed k → Fair (head_step 32 h at k)
-fair_step (sig, WantsName) at k l = fair (Named sig k) _ (is_named sig at k l)
-fair_step (sig, HasName) at k l = fair (NameGoesOn sig k) _ (name_goes_on sig at k)
-fair_step (sig, WantsCount f) at k l = fair (Counted sig f k) _ (is_counted sig f at k l)
-fair_step (sig, HasCount f) at k l = fair (CountGoesOn sig f k) _ (count_goes_on sig f at k)
-fair_step (sig, Done) at k l = tt
+tells : (ks : List Tok) (h : Head) → AllByRecursion Lexed ks → reach_with (head_step 32) ([], WantsName) origin ks ≡ Ok h → Told h ks (passed origin ks)
+tells ks h l e = all_along (head_step 32) Lexed Told told_next ks ([], WantsName) [] origin h l (none 32, refl) e
 
-fair_on : (r : Outcome) (f : Head → Result Sig SheetFault) → Fair r → ((h : Head) → Fair (f h)) → Fair (chain r f)
-fair_on (Ok h) f t g = g h
-fair_on (Err e) f t g = t
+-- the end of a heading
+ends : (h : Head) (at : At) (sig : Sig) → head_end h at ≡ Ok sig → h ≡ (sig, Done)
+ends (s, WantsName) at sig e = not_both (sym e)
+ends (s, HasName) at sig e = not_both (sym e)
+ends (s, WantsCount f) at sig e = not_both (sym e)
+ends (s, HasCount f) at sig e = not_both (sym e)
+ends (s, Done) at sig e = ap (λ x. (x, Done)) (same_ok e)
 
-fair_run : (ks : List Tok) (h : Head) (at : At) → AllByRecursion Lexed ks → Fair (head_run 32 h at ks)
-fair_run [] (sig, WantsName) at l = tt
-fair_run [] (sig, HasName) at l = tt
-fair_run [] (sig, WantsCount f) at l = tt
-fair_run [] (sig, HasCount f) at l = tt
-fair_run [] (sig, Done) at l = tt
-fair_run (k ∷ ks) h at l = fair_on (head_step 32 h at k) (λ g. head_run 32 g (past at k) ks) (fair_step h at k l.0) (λ g. fair_run ks g (past at k) l.1)
+-- the fault of a token is one of a heading
+fair : (h : Head) (at : At) (k : Tok) (f : SheetFault) → HeadReason 32 h k at f → OfHeading f
+fair h at k f (not_allowed e) = subst OfHeading (sym e) tt
+fair h at k f (many_names sig s p q l e) = subst OfHeading (sym e) tt
+fair h at k f (named_twice sig s i p q l e) = subst OfHeading (sym e) tt
+fair h at k f (bad_count s q e) = subst OfHeading (sym e) tt
 
-module _ (b : List ℕ) (sig : Sig) where
-  abbrev Heads : Type 0
-  Heads = Declared sig × (1 ≤ length sig) × (length sig ≤ 32) × (heading_text sig ≡ b)
+fair_end : (h : Head) (at : At) (f : SheetFault) → head_end h at ≡ Err f → OfHeading f
+fair_end (sig, WantsName) at f e = subst OfHeading (same_fault e) tt
+fair_end (sig, HasName) at f e = subst OfHeading (same_fault e) tt
+fair_end (sig, WantsCount i) at f e = subst OfHeading (same_fault e) tt
+fair_end (sig, HasCount i) at f e = subst OfHeading (same_fault e) tt
+fair_end (sig, Done) at f e = not_both e
 
-  accepted_run : head_run 32 ([], WantsName) origin (tokens b) ≡ Ok sig → Heads
-  accepted_run e =
-      let (good, some, few, q) = heading_told (tokens b) origin sig (tokens_lexed 0 b) e in
-      (good, some, few, sym (whole_heading sig) ∙ ap whole (sym q) ∙ whole_tokens 0 b)
+fair_stop : (h : Head) (at : At) (w : Wrong) (f : SheetFault) → HeadGood 32 h → ((k : Tok) → w ≡ Some k → Lexed k) → Refuses (head_step 32) head_end h at w f → OfHeading f
+fair_stop h at None f g l e = fair_end h at f e
+fair_stop h at (Some k) f g l e = fair h at k f (subst (HeadSaid 32 h k at) e (said_head 32 h at k (l k refl) g))
 
-  accepted : read_heading b ≡ Ok sig → Heads
+module _ (b : List ℕ) where
+  abbrev Heads : Sig → Type 0
+  Heads sig = Declared sig × (1 ≤ length sig) × (length sig ≤ 32) × (heading_text sig ≡ b)
+
+  accepted_run : (sig : Sig) → head_run 32 ([], WantsName) origin (tokens b) ≡ Ok sig → Heads sig
+  accepted_run sig e =
+      let (h, r, q) = run_ends (head_step 32) head_end ([], WantsName) origin (tokens b) sig e in
+      let (g, t) = tells (tokens b) (sig, Done) (tokens_lexed 0 b) (r ∙ ap Ok (ends h (passed origin (tokens b)) sig q)) in
+      (g.0.declared, g.1, g.0.few, sym (whole_heading sig) ∙ ap whole t ∙ whole_tokens 0 b)
+
+  refused_run : (f : SheetFault) → head_run 32 ([], WantsName) origin (tokens b) ≡ Err f → OfHeading f
+  refused_run f e =
+      let y = run_stops (head_step 32) head_end ([], WantsName) origin (tokens b) f e in
+      let ks : List Tok = take y.before (tokens b) in
+      let z = tells ks y.state (All-take Lexed y.before (tokens b) (tokens_lexed 0 b)) y.there in
+      fair_stop y.state (passed origin ks) (first_of (drop y.before (tokens b))) f z.0 (first_lexed (drop y.before (tokens b)) (All-drop Lexed y.before (tokens b) (tokens_lexed 0 b))) y.refuses
+
+  accepted : (sig : Sig) → read_heading b ≡ Ok sig → Heads sig
   unfolding read_heading
-  accepted = cond_both (leb (length b) sheet_limit) (head_run 32 ([], WantsName) origin (tokens b)) (Err (Text (PastLimit origin))) (λ (r : Result Sig SheetFault). r ≡ Ok sig → Heads) (λ _. accepted_run) (λ _ e. not_both (sym e))
+  accepted sig = cond_both (leb (length b) sheet_limit) (head_run 32 ([], WantsName) origin (tokens b)) (Err (Text (PastLimit origin))) (λ (r : Result Sig SheetFault). r ≡ Ok sig → Heads sig) (λ _. accepted_run sig) (λ _ e. not_both (sym e))
 
-  read_back : Declared sig → 1 ≤ length sig → length sig ≤ 32 → heading_text sig ≡ b → read_heading b ≡ Ok sig
+  refused : (f : SheetFault) → read_heading b ≡ Err f → OfHeading f
+  unfolding read_heading
+  refused f = cond_both (leb (length b) sheet_limit) (head_run 32 ([], WantsName) origin (tokens b)) (Err (Text (PastLimit origin))) (λ (r : Result Sig SheetFault). r ≡ Err f → OfHeading f) (λ _. refused_run f) (λ _ e. subst OfHeading (same_fault e) tt)
+
+  read_back : (sig : Sig) → Declared sig → 1 ≤ length sig → length sig ≤ 32 → heading_text sig ≡ b → read_heading b ≡ Ok sig
   unfolding read_heading sheet_limit
-  read_back good some few e =
+  read_back sig good some few e =
       ap read_heading (sym e)
       ∙ cond-true (leb (length (heading_text sig)) sheet_limit) _ _ (le-leb (length (heading_text sig)) sheet_limit (heading_short good few))
       ∙ ap (head_run 32 ([], WantsName) origin) (ap tokens (sym (append-nil (heading_text sig))) ∙ tokens_heading good [] ∙ append-nil (heading_tokens sig))
-      ∙ heading_back sig origin good some few
-
-fair_heading : (b : List ℕ) → Fair (read_heading b)
-unfolding read_heading
-fair_heading b = cond_both (leb (length b) sheet_limit) _ (Err (Text (PastLimit origin))) Fair (λ _. fair_run (tokens b) ([], WantsName) origin (tokens_lexed 0 b)) (λ _. tt)
+      ∙ run_on (head_step 32) head_end ([], WantsName) origin (heading_tokens sig) (sig, Done) sig (heading_back 32 sig good some few origin) refl
 
 pub heading_law : (b : List ℕ) → HeadingLaw b
-heading_law b = record { accepted = accepted b; read_back = read_back b; refused = λ f e. subst Fair e (fair_heading b) }
+heading_law b = record { accepted = accepted b; read_back = read_back b; refused = refused b }

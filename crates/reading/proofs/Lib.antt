@@ -16,7 +16,7 @@ pub mod Refusing
 pub mod Giving
 pub mod Reading
 pub mod Lines
-pub mod Counting
-pub mod Naming
+pub mod Heads
+pub mod HeadingBack
 pub mod Headings
 pub mod Cases

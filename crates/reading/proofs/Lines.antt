@@ -22,6 +22,47 @@ abbrev pub line : List Tok → List Tok
 line [] = a_mark LineEnd ∷ []
 line (k ∷ ks) = k ∷ follow ks
 
+-- each with a blank behind it
+abbrev pub blanked : List Tok → List Tok
+blanked [] = []
+blanked (k ∷ ks) = k ∷ (a_mark Blank ∷ blanked ks)
+
+-- each behind its blank
+abbrev pub spread : List Tok → List Tok
+spread [] = []
+spread (k ∷ ks) = a_mark Blank ∷ (k ∷ spread ks)
+
+-- a blank between two of them
+abbrev pub spaced : List Tok → List Tok
+spaced [] = []
+spaced (k ∷ ks) = k ∷ spread ks
+
+spread_push : (ks : List Tok) (k : Tok) → spread (ks ++ (k ∷ [])) ≡ a_mark Blank ∷ (blanked ks ++ (k ∷ []))
+spread_push [] k = refl
+spread_push (j ∷ ks) k = ap (λ l. a_mark Blank ∷ (j ∷ l)) (spread_push ks k)
+
+spread_blank : (ks : List Tok) → spread ks ++ (a_mark Blank ∷ []) ≡ a_mark Blank ∷ blanked ks
+spread_blank [] = refl
+spread_blank (k ∷ ks) = ap (λ l. a_mark Blank ∷ (k ∷ l)) (spread_blank ks)
+
+spread_end : (ks : List Tok) → spread ks ++ (a_mark LineEnd ∷ []) ≡ follow ks
+spread_end [] = refl
+spread_end (k ∷ ks) = ap (λ l. a_mark Blank ∷ (k ∷ l)) (spread_end ks)
+
+-- one more, a blank behind the last, and the end of the line
+
+pub spaced_push : (ks : List Tok) (k : Tok) → spaced (ks ++ (k ∷ [])) ≡ blanked ks ++ (k ∷ [])
+spaced_push [] k = refl
+spaced_push (j ∷ ks) k = ap (λ l. j ∷ l) (spread_push ks k)
+
+pub spaced_blank : (ks : List Tok) → 1 ≤ length ks → blanked ks ≡ spaced ks ++ (a_mark Blank ∷ [])
+spaced_blank [] h = absurd (omega arith)
+spaced_blank (k ∷ ks) h = ap (λ l. k ∷ l) (sym (spread_blank ks))
+
+pub spaced_end : (ks : List Tok) → line ks ≡ spaced ks ++ (a_mark LineEnd ∷ [])
+spaced_end [] = refl
+spaced_end (k ∷ ks) = ap (λ l. k ∷ l) (sym (spread_end ks))
+
 abbrev pub name_tok : Op → Tok
 name_tok o = a_name o.name
 

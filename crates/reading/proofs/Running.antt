@@ -1,5 +1,6 @@
 -- A run over some tokens, and where it stops.
-use Rattle.std.proofs.Common.{◌≡◌, ℕ, suc, List, [], ◌∷◌, ◌++◌, take, drop, Some, None, Ok, Err, Option, Result, sym, refl, ap, ◌∙◌}
+use Rattle.std.proofs.Common.{◌≡◌, ℕ, suc, List, [], ◌∷◌, ◌++◌, take, drop, Some, None, Ok, Err, Option, Result, sym, refl, ap, ◌∙◌, subst, append_assoc, append-nil}
+use Rattle.std.specs.List.{AllByRecursion}
 use Rattle.terms.specs.Term.{Term}
 use Rattle.terms.specs.Signature.{Sig}
 use Rattle.reading.specs.declared.token.At.{At}
@@ -7,7 +8,7 @@ use Rattle.reading.specs.declared.fault.TextFault.{TextFault}
 use Rattle.reading.specs.Tokens.{Tok, past}
 use Rattle.reading.specs.Reading.{State, wants, opens, has, top, within, step, ending, chain, run_with, run}
 use Rattle.reading.specs.Laws.{Wrong, first_of}
-use Rattle.reading.proofs.Equal.{not_both, same_fault}
+use Rattle.reading.proofs.Equal.{not_both, same_ok, same_fault}
 
 -- the place behind some tokens
 abbrev pub passed : At → List Tok → At
@@ -43,6 +44,15 @@ module _ {S E : Type 0} (next : S → At → Tok → Result S E) where
   -- the first of some tokens
   pub reach_first : (s : S) (at : At) (k : Tok) (ks : List Tok) (u : S) → reach_with s at (k ∷ ks) ≡ Ok u → (v : S) × (next s at k ≡ Ok v) × (reach_with v (past at k) ks ≡ Ok u)
   reach_first s at k ks u e = chain_ok (next s at k) _ u e
+
+  -- what one token keeps of the state, the tokens before it and its place is kept along all tokens
+  pub all_along : (Q : Tok → Type 0) (P : S → List Tok → At → Type 0)
+      → ((s : S) (ks : List Tok) (at : At) (k : Tok) (u : S) → Q k → P s ks at → next s at k ≡ Ok u → P u (ks ++ (k ∷ [])) (past at k))
+      → (ls : List Tok) (s : S) (ks : List Tok) (at : At) (u : S) → AllByRecursion Q ls → P s ks at → reach_with s at ls ≡ Ok u → P u (ks ++ ls) (passed at ls)
+  all_along Q P one [] s ks at u l p e = subst (λ v. P v (ks ++ []) at) (same_ok e) (subst (λ js. P s js at) (sym (append-nil ks)) p)
+  all_along Q P one (k ∷ ls) s ks at u l p e =
+      let (v, q, r) = reach_first s at k ls u e in
+      subst (λ js. P u js (passed (past at k) ls)) (append_assoc ks (k ∷ []) ls) (all_along Q P one ls v (ks ++ (k ∷ [])) (past at k) u l.1 (one s ks at k v l.0 p q) r)
 
   -- wherever the tokens stand, they lead from one state to another
   abbrev pub Leads : S → List Tok → S → Type 0

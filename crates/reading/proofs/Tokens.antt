@@ -1,11 +1,13 @@
 -- The tokens of a text are its parts: a name is spelt as one, a number is digits, an instrument has digits behind '#', and a variable is one of eight.
-use Rattle.std.proofs.Common.{◌≡◌, ℕ, zero, suc, ◌+◌, ◌-◌, ◌<◌, ◌≤◌, Bool, true, ◌&&◌, eqb, leb, List, [], ◌∷◌, ◌++◌, length, drop, Some, sym, refl, ap, ◌∙◌, subst, arith, length-append}
+use Rattle.std.proofs.Common.{◌≡◌, ℕ, zero, suc, ◌+◌, ◌-◌, ◌<◌, ◌≤◌, Bool, true, ◌&&◌, eqb, leb, List, [], ◌∷◌, ◌++◌, length, drop, Some, sym, refl, ap, ◌∙◌, subst, arith, length-append, OnSome, None}
 use Rattle.std.specs.List.{AllByRecursion}
 use Rattle.std.proofs.lemmas.Bool.{cond_both, eqb-true, leb-true, le-leb, and_parts, and_from}
 use Rattle.terms.specs.Signature.{lower, digit, word, all_words, spelt}
 use Rattle.reading.specs.declared.token.Mark.{Mark}
 use Rattle.reading.specs.declared.token.Mark.TheVariants.{Opening, Closing, Comma, Equals, Dash, Blank, LineEnd}
 use Rattle.reading.specs.Tokens.{Tok, a_name, a_number, an_instrument, a_variable, a_mark, a_stray, front, single, first_token, first_of_text, mark_byte, token_bytes, mark_lines, lines, tokens_from, tokens, whole}
+use Rattle.reading.proofs.Equal.{no_some, same_some}
+use Rattle.reading.specs.Laws.{first_of}
 
 front_rest : (p : ℕ → Bool) (k : ℕ) (bs : List ℕ) → front p k bs ++ drop (length (front p k bs)) bs ≡ bs
 front_rest p zero bs = refl
@@ -150,3 +152,8 @@ tokens_step (b ∷ bs) k e =
       some_bytes = omega arith;
       few_lines = lines_within (first_token b bs);
     })
+
+-- the first of some tokens is one of them
+pub first_lexed : (ks : List Tok) → AllByRecursion Lexed ks → (k : Tok) → first_of ks ≡ Some k → Lexed k
+first_lexed [] l k e = no_some e
+first_lexed (j ∷ ks) l k e = subst Lexed (same_some e) l.0

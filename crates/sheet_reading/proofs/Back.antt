@@ -9,24 +9,25 @@ use Rattle.terms.specs.Signature.{Sig, op_of, Declared}
 use Rattle.terms.specs.Text.{text_of}
 use Rattle.reading.specs.declared.token.At.{At}
 use Rattle.reading.specs.declared.token.Mark.TheVariants.{Equals, Blank, LineEnd}
-use Rattle.reading.specs.declared.heading.Stage.TheVariants.{WantsName}
+use Rattle.reading.specs.declared.heading.Stage.TheVariants.{WantsName, HasName, WantsCount, HasCount, Done}
 use Rattle.reading.specs.Tokens.{Tok, a_mark, tokens, past}
 use Rattle.reading.specs.Reading.{top, within, State, wants, opens, has, chain}
 use Rattle.reading.proofs.Digits.{numbered_decimal}
 use Rattle.reading.proofs.Equal.{not_both, same_ok}
 use Rattle.reading.proofs.Lines.{follow, line, heading_tokens}
-use Rattle.reading.proofs.Running.{passed, chain_ok, reach_join, Leads, leads_join, then_reach}
+use Rattle.reading.proofs.Running.{passed, chain_ok, reach_join, Leads, leads_join, then_reach, reach_with, reach_first}
 use Rattle.reading.specs.declared.fault.SheetFault.{SheetFault}
 use Rattle.sheet_reading.specs.Values.{Value, Grid, range_of, ValueIn, LineIn, GridIn}
 use Rattle.sheet_reading.specs.Sheet.{Sheet, SheetShaped, Limits, SideWithin, SheetWithin}
 use Rattle.sheet_reading.specs.Sides.{Hand, on_left, on_right, side_step}
-use Rattle.sheet_reading.specs.Reading.{is_mark, is_word, Stand, in_heading, wants_value, has_value, has_word, in_rule, Move, from_least, value_of, rules_may_come, ends_side, behind_side, sheet_step}
+use Rattle.sheet_reading.specs.Reading.{is_mark, is_word, Stand, in_heading, wants_value, has_value, has_word, in_rule, Move, from_least, value_of, rules_may_come, ends_side, behind_side, sheet_step, headed}
 use Rattle.sheet_reading.proofs.SideFacts.{LeftShaped, RightShaped, HandShaped, side_reach}
 use Rattle.sheet_reading.proofs.Stands.{reach, value_tok, grid_tokens, rule_tokens, rules_tokens, front_tokens, the_word, sheet_tokens}
 use Rattle.sheet_reading.proofs.SideBack.{back}
 use Rattle.sheet_reading.proofs.Ranges.{Small, range_small}
 use Rattle.sheet_reading.proofs.Valuing.{mark_is}
-use Rattle.sheet_reading.proofs.HeadingBack.{heading_back}
+use Rattle.reading.proofs.HeadingBack.{heading_back}
+use Rattle.reading.specs.Heading.{Head, Outcome, head_step}
 
 -- values
 
@@ -51,6 +52,22 @@ line_long n [] [] h = refl
 line_long n [] (v ∷ vs) h = absurd h
 line_long n (o ∷ os) [] h = absurd h
 line_long n (o ∷ os) (v ∷ vs) h = ap suc (line_long n os vs h.1)
+
+-- a heading
+
+module _ (m : Limits) (g : Head) where
+  head_on : (ks : List Tok) (h : Head) (at : At) (k : Tok) (u : Head) → head_step m.operators h at k ≡ Ok u → reach m (headed u) (past at k) ks ≡ Ok (headed g) → reach m (in_heading h) at (k ∷ ks) ≡ Ok (headed g)
+  head_on ks h at k u e q = then_reach (sheet_step m) (in_heading h) at k ks (headed u) (ap (λ (r : Outcome). chain r (λ v. Ok (headed v))) e) ∙ q
+
+  pub heads_on : (ks : List Tok) (h : Head) (at : At) → reach_with (head_step m.operators) h at ks ≡ Ok g → reach m (headed h) at ks ≡ Ok (headed g)
+  heads_on [] h at e = ap (λ x. Ok (headed x)) (same_ok e)
+  heads_on (k ∷ ks) (sig, WantsName) at e = let (u, p, q) = reach_first (head_step m.operators) (sig, WantsName) at k ks g e in head_on ks (sig, WantsName) at k u p (heads_on ks u (past at k) q)
+  heads_on (k ∷ ks) (sig, HasName) at e = let (u, p, q) = reach_first (head_step m.operators) (sig, HasName) at k ks g e in head_on ks (sig, HasName) at k u p (heads_on ks u (past at k) q)
+  heads_on (k ∷ ks) (sig, WantsCount f) at e = let (u, p, q) = reach_first (head_step m.operators) (sig, WantsCount f) at k ks g e in head_on ks (sig, WantsCount f) at k u p (heads_on ks u (past at k) q)
+  heads_on (k ∷ ks) (sig, HasCount f) at e = let (u, p, q) = reach_first (head_step m.operators) (sig, HasCount f) at k ks g e in head_on ks (sig, HasCount f) at k u p (heads_on ks u (past at k) q)
+  heads_on (k ∷ ks) (sig, Done) at e = not_both (sym e)
+
+-- lines of values and the word behind them
 
 module _ (m : Limits) where
   module _ (sig : Sig) (grid : Grid) (more : length grid < 8) where
@@ -152,7 +169,7 @@ sheet_back m s h w =
     let start : Stand = in_heading ([], WantsName) in
     let few : 0 + length grid ≤ 8 = ⊎_elim (λ e. omega arith) (λ e. omega arith) h.one_or_two in
     let front : Leads (sheet_step m) start (front_tokens sig grid) (wants_value sig grid []) = leads_join (sheet_step m) start (heading_tokens sig) (grid_tokens grid) (wants_value sig [] []) (wants_value sig grid [])
-    (heading_back m sig h.declared h.some_operators w.few_operators) (grid_back m sig grid [] h.some_operators h.in_range few) in
+    (λ at. heads_on m (sig, Done) (heading_tokens sig) ([], WantsName) at (heading_back m.operators sig h.declared h.some_operators w.few_operators at)) (grid_back m sig grid [] h.some_operators h.in_range few) in
     leads_join (sheet_step m) start (front_tokens sig grid) (the_word ∷ (a_mark LineEnd ∷ rules_tokens sig s.rules)) (wants_value sig grid []) (behind_sheet s) front
     (leads_join (sheet_step m) (wants_value sig grid []) (the_word ∷ (a_mark LineEnd ∷ [])) (rules_tokens sig s.rules) (in_rule sig grid [] on_left (wants top)) (behind_sheet s)
     (word_back m sig grid h.one_or_two)

@@ -10,14 +10,14 @@ use Rattle.reading.specs.declared.heading.Stage.TheVariants.{WantsName, HasName,
 use Rattle.reading.specs.Tokens.{Tok, a_mark, tokens}
 use Rattle.reading.specs.Reading.{State}
 use Rattle.reading.specs.Heading.{Head}
-use Rattle.reading.proofs.Lines.{follow, line, name_tok, count_tok, heading_tokens}
+use Rattle.reading.proofs.Lines.{follow, line, name_tok, count_tok, heading_tokens, blanked, spread, spaced, spaced_end}
 use Rattle.reading.proofs.States.{state_tokens}
 use Rattle.sheet_reading.specs.Values.{Value, Grid, LineIn, GridIn}
 use Rattle.sheet_reading.specs.Sheet.{Sheet, SheetShaped}
 use Rattle.sheet_reading.specs.Sides.{Hand, on_left, on_right}
 use Rattle.sheet_reading.specs.Reading.{Stand, in_heading, wants_value, has_value, has_word, in_rule}
-use Rattle.sheet_reading.proofs.Stands.{blanked, spread, spaced, spaced_end, value_tok, grid_tokens, grid_append, front_tokens, the_word, sheet_tokens, sheet_of, before_side, head_tokens, stand_tokens}
-use Rattle.sheet_reading.proofs.Headings.{HeadGood}
+use Rattle.sheet_reading.proofs.Stands.{value_tok, grid_tokens, grid_append, front_tokens, the_word, sheet_tokens, sheet_of, before_side, stand_tokens}
+use Rattle.reading.proofs.Heads.{head_tokens, HeadGood}
 use Rattle.sheet_reading.proofs.Ranges.{grid_joined, completed, full_grid}
 use Rattle.sheet_reading.proofs.Goods.{Valued, Over, Ruled, Good}
 use Rattle.sheet_reading.proofs.Ruling.{shaped_push, sheet_push}
@@ -63,7 +63,7 @@ module _ {A : Type 0} (f : A → Tok) where
 
 -- the heading
 
-fronts_heading : (h : Head) → HeadGood h → (sig : Sig) × Declared sig × (1 ≤ length sig) × Fronts (head_tokens h) (heading_tokens sig)
+fronts_heading : (h : Head) → HeadGood 32 h → (sig : Sig) × Declared sig × (1 ≤ length sig) × Fronts (head_tokens h) (heading_tokens sig)
 fronts_heading (sig, WantsName) g =
     let (s, e, u) = fresh sig g.few in
     let new : Op = record { name = s; arity = 0 } in

@@ -13,11 +13,11 @@ use Rattle.sheet_reading.proofs.SideStates.{Good as SideGood}
 use Rattle.sheet_reading.proofs.Stands.{sheet_of, before_side, stand_tokens}
 use Rattle.sheet_reading.proofs.Causes.{Cause}
 use Rattle.sheet_reading.proofs.Ranges.{LinePart}
-use Rattle.sheet_reading.proofs.Headings.{Operators, HeadGood}
+use Rattle.reading.proofs.Heads.{Operators, HeadGood}
 
 -- the lines of values so far, and the first values of the next one
 pub record Valued (sig : Sig) (grid : Grid) (vs : List Value) : Type 0 where
-  pub operators : Operators sig
+  pub operators : Operators 32 sig
   pub some : 1 ≤ length sig
   pub in_range : GridIn 0 sig grid
   pub so_far : LinePart (length grid) sig vs
@@ -45,7 +45,7 @@ pub record Ruled (sig : Sig) (grid : Grid) (rules : List Rule) (d : Hand) (s : S
   pub last : length rules ≡ 32 → (d ≡ on_left) × (s ≡ wants top)
 
 abbrev pub Good : Stand → Type 0
-Good (in_heading h) = HeadGood h
+Good (in_heading h) = HeadGood 32 h
 Good (wants_value sig grid vs) = Valued sig grid vs × (length vs < length sig)
 Good (has_value sig grid vs) = Valued sig grid vs × (1 ≤ length vs)
 Good (has_word sig grid) = SheetShaped (sheet_of sig grid []) × SheetWithin limits (sheet_of sig grid [])

@@ -16,7 +16,6 @@ pub mod Goods
 pub mod Valuing
 pub mod Ruling
 pub mod Telling
-pub mod HeadingBack
 pub mod Back
 pub mod Larger
 pub mod Stuck

@@ -9,7 +9,7 @@ use Rattle.reading.specs.Reading.{top, within, wants, opens, has, chain}
 use Rattle.reading.specs.Heading.{sheet_limit}
 use Rattle.reading.specs.Laws.{Wrong, first_of}
 use Rattle.reading.proofs.Equal.{no_some, same_some, not_both, same_ok}
-use Rattle.reading.proofs.Tokens.{whole_tokens, Lexed, tokens_lexed}
+use Rattle.reading.proofs.Tokens.{whole_tokens, Lexed, tokens_lexed, first_lexed}
 use Rattle.reading.proofs.Running.{passed, run_on, run_ends, run_stops}
 use Rattle.reading.specs.declared.fault.SheetFault.{SheetFault}
 use Rattle.reading.specs.declared.fault.SheetFault.TheVariants.{Text}
@@ -17,14 +17,13 @@ use Rattle.sheet_reading.specs.Sheet.{Sheet, SheetShaped, limits, SheetWithin, s
 use Rattle.sheet_reading.specs.Sides.{on_left, on_right}
 use Rattle.sheet_reading.specs.Reading.{Stand, in_heading, wants_value, has_value, has_word, in_rule, rule_end, sheet_step, sheet_end, sheet_run, read_sheet}
 use Rattle.sheet_reading.specs.Laws.{FirstWrong, Explained, SheetLaw}
-use Rattle.sheet_reading.proofs.Stands.{reach}
+use Rattle.sheet_reading.proofs.Stands.{reach, start}
 use Rattle.sheet_reading.proofs.Written.{tokens_sheet}
 use Rattle.sheet_reading.proofs.Causes.{Cause, refused_for}
-use Rattle.sheet_reading.proofs.Headings.{none}
 use Rattle.sheet_reading.proofs.Telling.{tells, cause}
 use Rattle.sheet_reading.proofs.Back.{behind_sheet, sheet_back}
 use Rattle.sheet_reading.proofs.Completing.{begun}
-use Rattle.sheet_reading.proofs.Stuck.{start, stuck}
+use Rattle.sheet_reading.proofs.Stuck.{stuck}
 
 -- a sheet may end only behind its last rule
 
@@ -42,17 +41,12 @@ ends (has_value sig grid vs) at t e = not_both (sym e)
 ends (has_word sig grid) at t e = not_both (sym e)
 ends (in_rule sig grid rules d s) at t e = rule_ends sig grid rules d s at t e
 
--- the first of some tokens is one of them
-first_lexed : (ks : List Tok) → AllByRecursion Lexed ks → (k : Tok) → first_of ks ≡ Some k → Lexed k
-first_lexed [] l k e = no_some e
-first_lexed (j ∷ ks) l k e = subst Lexed (same_some e) l.0
-
 module _ (b : List ℕ) where
   accepted_run : (t : Sheet) → sheet_run limits start origin (tokens b) ≡ Ok t → SheetShaped t × SheetWithin limits t × (sheet_text t ≡ b)
   accepted_run t e =
       let (s, r, q) = run_ends (sheet_step limits) sheet_end start origin (tokens b) t e in
       let same = ends s (passed origin (tokens b)) t q in
-      let z = tells start origin (tokens b) (behind_sheet t) (tokens_lexed 0 b) none refl (r ∙ ap Ok same) in
+      let z = tells (tokens b) (behind_sheet t) (tokens_lexed 0 b) (r ∙ ap Ok same) in
       let shaped : SheetShaped t = z.is_good.shaped in (
         shaped,
         z.is_good.within,
@@ -66,7 +60,7 @@ module _ (b : List ℕ) where
       let w : Wrong = first_of (drop y.before (tokens b)) in
       let lexed : AllByRecursion Lexed ks = All-take Lexed y.before (tokens b) (tokens_lexed 0 b) in
       let next = first_lexed (drop y.before (tokens b)) (All-drop Lexed y.before (tokens b) (tokens_lexed 0 b)) in
-      let z = tells start origin ks y.state lexed none refl y.there in
+      let z = tells ks y.state lexed y.there in
       let t = begun y.state z.is_good in
       let c : Cause t.sheet.operators ks w f =
       subst (λ l. Cause t.sheet.operators l w f) z.so_far (cause y.state (passed origin ks) w f z.is_good z.place y.refuses next t.sheet.operators t.over) in

@@ -8,7 +8,7 @@ use Rattle.reading.specs.declared.token.Mark.TheVariants.{Equals, Dash, Blank, L
 use Rattle.reading.specs.declared.heading.Stage.TheVariants.{WantsName, HasName, WantsCount, HasCount, Done}
 use Rattle.reading.specs.Tokens.{Tok, a_name, a_number, a_mark, tokens, whole, lines, past}
 use Rattle.reading.specs.Heading.{Head}
-use Rattle.reading.proofs.Lines.{follow, line, name_tok, count_tok, heading_tokens}
+use Rattle.reading.proofs.Lines.{follow, line, name_tok, count_tok, heading_tokens, blanked, spaced}
 use Rattle.reading.proofs.Running.{reach_with}
 use Rattle.reading.proofs.States.{state_tokens}
 use Rattle.reading.proofs.Telling.{same_at, length_whole}
@@ -18,49 +18,7 @@ use Rattle.sheet_reading.specs.Sides.{Hand, on_left, on_right}
 use Rattle.sheet_reading.specs.Reading.{Stand, in_heading, wants_value, has_value, has_word, in_rule, Move, sheet_step}
 use Rattle.sheet_reading.specs.Laws.{count, Behind, names_on}
 use Rattle.sheet_reading.proofs.Counting.{count_then}
-
--- tokens of a line
-
--- each with a blank behind it
-abbrev pub blanked : List Tok → List Tok
-blanked [] = []
-blanked (k ∷ ks) = k ∷ (a_mark Blank ∷ blanked ks)
-
--- each behind its blank
-abbrev pub spread : List Tok → List Tok
-spread [] = []
-spread (k ∷ ks) = a_mark Blank ∷ (k ∷ spread ks)
-
--- a blank between two of them
-abbrev pub spaced : List Tok → List Tok
-spaced [] = []
-spaced (k ∷ ks) = k ∷ spread ks
-
-spread_push : (ks : List Tok) (k : Tok) → spread (ks ++ (k ∷ [])) ≡ a_mark Blank ∷ (blanked ks ++ (k ∷ []))
-spread_push [] k = refl
-spread_push (j ∷ ks) k = ap (λ l. a_mark Blank ∷ (j ∷ l)) (spread_push ks k)
-
-spread_blank : (ks : List Tok) → spread ks ++ (a_mark Blank ∷ []) ≡ a_mark Blank ∷ blanked ks
-spread_blank [] = refl
-spread_blank (k ∷ ks) = ap (λ l. a_mark Blank ∷ (k ∷ l)) (spread_blank ks)
-
-spread_end : (ks : List Tok) → spread ks ++ (a_mark LineEnd ∷ []) ≡ follow ks
-spread_end [] = refl
-spread_end (k ∷ ks) = ap (λ l. a_mark Blank ∷ (k ∷ l)) (spread_end ks)
-
--- one more, a blank behind the last, and the end of the line
-
-pub spaced_push : (ks : List Tok) (k : Tok) → spaced (ks ++ (k ∷ [])) ≡ blanked ks ++ (k ∷ [])
-spaced_push [] k = refl
-spaced_push (j ∷ ks) k = ap (λ l. j ∷ l) (spread_push ks k)
-
-pub spaced_blank : (ks : List Tok) → 1 ≤ length ks → blanked ks ≡ spaced ks ++ (a_mark Blank ∷ [])
-spaced_blank [] h = absurd (omega arith)
-spaced_blank (k ∷ ks) h = ap (λ l. k ∷ l) (sym (spread_blank ks))
-
-pub spaced_end : (ks : List Tok) → line ks ≡ spaced ks ++ (a_mark LineEnd ∷ [])
-spaced_end [] = refl
-spaced_end (k ∷ ks) = ap (λ l. k ∷ l) (sym (spread_end ks))
+use Rattle.reading.proofs.Heads.{head_tokens}
 
 pub names_blanked : (sig : Sig) → names_on sig ≡ blanked (map name_tok sig)
 names_blanked [] = refl
@@ -114,19 +72,16 @@ sheet_of sig grid rules = record { operators = sig; values = grid; rules = rules
 abbrev pub before_side : Sig → Grid → List Rule → Hand → List Tok
 before_side sig grid rules d = sheet_tokens (sheet_of sig grid rules) ++ hand_tokens sig d
 
-abbrev pub head_tokens : Head → List Tok
-head_tokens (sig, WantsName) = blanked (map name_tok sig)
-head_tokens (sig, HasName) = spaced (map name_tok sig)
-head_tokens (sig, WantsCount f) = line (map name_tok sig) ++ blanked (map count_tok (take f sig))
-head_tokens (sig, HasCount f) = line (map name_tok sig) ++ spaced (map count_tok (take (suc f) sig))
-head_tokens (sig, Done) = heading_tokens sig
-
 abbrev pub stand_tokens : Stand → List Tok
 stand_tokens (in_heading h) = head_tokens h
 stand_tokens (wants_value sig grid vs) = front_tokens sig grid ++ blanked (map value_tok vs)
 stand_tokens (has_value sig grid vs) = front_tokens sig grid ++ spaced (map value_tok vs)
 stand_tokens (has_word sig grid) = front_tokens sig grid ++ (the_word ∷ [])
 stand_tokens (in_rule sig grid rules d s) = before_side sig grid rules d ++ state_tokens sig s
+
+-- where the reading begins
+abbrev pub start : Stand
+start = in_heading ([], WantsName)
 
 -- the stand behind some tokens
 abbrev pub reach : Limits → Stand → At → List Tok → Move

@@ -13,7 +13,7 @@ use Rattle.sheet_reading.specs.Sheet.{Sheet, SheetShaped, Limits, limits, SheetW
 use Rattle.sheet_reading.specs.Reading.{Stand, in_heading, sheet_step, sheet_end}
 use Rattle.sheet_reading.specs.Laws.{StuckAt}
 use Rattle.sheet_reading.proofs.SideFacts.{More, OfLimit}
-use Rattle.sheet_reading.proofs.Stands.{reach}
+use Rattle.sheet_reading.proofs.Stands.{reach, start}
 use Rattle.sheet_reading.proofs.Written.{tokens_sheet}
 use Rattle.sheet_reading.proofs.Back.{behind_sheet, sheet_back}
 use Rattle.sheet_reading.proofs.SideLimits.{Stays}
@@ -37,9 +37,6 @@ within_wide s = record { few_operators = omega arith; few_rules = omega arith; s
 
 more_wide : (s : Sheet) → More limits (wide s)
 more_wide s = record { operators = omega arith; rules = omega arith; symbols = omega arith; levels = omega arith }
-
-abbrev pub start : Stand
-start = in_heading ([], WantsName)
 
 -- a sheet's tokens are read within wide limits
 read_wide : (t : Sheet) → SheetShaped t → reach (wide t) start origin (tokens (sheet_text t)) ≡ Ok (behind_sheet t)

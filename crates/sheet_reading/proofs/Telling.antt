@@ -4,28 +4,29 @@ use Rattle.std.specs.List.{AllByRecursion}
 use Rattle.terms.specs.Signature.{Sig}
 use Rattle.reading.specs.declared.token.At.{At}
 use Rattle.reading.specs.declared.heading.Stage.TheVariants.{WantsName, HasName, WantsCount, HasCount, Done}
-use Rattle.reading.specs.Tokens.{Tok, past}
+use Rattle.reading.specs.Tokens.{Tok, past, origin}
 use Rattle.reading.specs.Reading.{top, within, wants, opens, has, chain}
 use Rattle.reading.specs.Heading.{Head, Outcome, head_step}
 use Rattle.reading.specs.Laws.{Wrong}
 use Rattle.reading.proofs.Equal.{no_some, not_both, same_ok, same_fault}
 use Rattle.reading.proofs.Lines.{heading_tokens}
-use Rattle.reading.proofs.Running.{passed, reach_first, Refuses}
+use Rattle.reading.proofs.Running.{passed, all_along, Refuses}
 use Rattle.reading.specs.declared.fault.SheetFault.{SheetFault}
 use Rattle.sheet_reading.specs.Sheet.{limits}
 use Rattle.sheet_reading.specs.Sides.{on_left, on_right}
 use Rattle.sheet_reading.specs.Reading.{Stand, in_heading, wants_value, has_value, has_word, in_rule, headed, sheet_step, rule_end, sheet_end}
 use Rattle.sheet_reading.specs.Laws.{Behind}
 use Rattle.reading.proofs.Tokens.{Lexed}
-use Rattle.sheet_reading.proofs.Stands.{reach, head_tokens, before_side, stand_tokens, behind_past}
+use Rattle.sheet_reading.proofs.Stands.{reach, before_side, stand_tokens, behind_past, start}
 use Rattle.sheet_reading.proofs.Causes.{Cause}
 use Rattle.sheet_reading.proofs.SideTelling.{miscounted_opens}
-use Rattle.sheet_reading.proofs.Headings.{HeadGood, HeadSaid, said_head}
+use Rattle.reading.proofs.Heads.{head_tokens, HeadGood, HeadSaid, said_head, none}
+use Rattle.sheet_reading.proofs.Headings.{head_cause}
 use Rattle.sheet_reading.proofs.Goods.{Over, Ruled, Good, Said}
 use Rattle.sheet_reading.proofs.Valuing.{said_line, said_behind_value, said_behind_word}
 use Rattle.sheet_reading.proofs.Ruling.{said_rule}
 
-good_headed : (g : Head) → HeadGood g → Good (headed g)
+good_headed : (g : Head) → HeadGood 32 g → Good (headed g)
 good_headed (sig, WantsName) h = h
 good_headed (sig, HasName) h = h
 good_headed (sig, WantsCount f) h = h
@@ -39,12 +40,12 @@ headed_tokens (sig, WantsCount f) = refl
 headed_tokens (sig, HasCount f) = refl
 headed_tokens (sig, Done) = append-nil _ ∙ append-nil (heading_tokens sig)
 
-said_heading : (h : Head) (k : Tok) (r : Outcome) → HeadSaid h k r → Said (in_heading h) k (chain r (λ g. Ok (headed g)))
-said_heading h k (Ok g) z = (good_headed g z.0, headed_tokens g ∙ z.1)
-said_heading h k (Err f) z = λ o _. z o
+said_heading : (h : Head) (at : At) (k : Tok) (r : Outcome) → HeadGood 32 h → Behind (head_tokens h) at → HeadSaid 32 h k at r → Said (in_heading h) k (chain r (λ g. Ok (headed g)))
+said_heading h at k (Ok g) i p z = (good_headed g z.0, headed_tokens g ∙ z.1)
+said_heading h at k (Err f) i p z = λ o _. head_cause o at h k f z i p
 
 pub said : (s : Stand) (at : At) (k : Tok) → Lexed k → Good s → Behind (stand_tokens s) at → Said s k (sheet_step limits s at k)
-said (in_heading h) at k l g p = said_heading h k (head_step 32 h at k) (said_head h at k l g p)
+said (in_heading h) at k l g p = said_heading h at k (head_step 32 h at k) g p (said_head 32 h at k l g)
 said (wants_value sig grid vs) at k l g p = said_line sig grid at k vs l g p
 said (has_value sig grid vs) at k l g p = said_behind_value sig grid at k vs g p
 said (has_word sig grid) at k l g p = said_behind_word sig grid at k g p
@@ -52,21 +53,19 @@ said (in_rule sig grid rules d s) at k l g p = said_rule sig grid rules at k d s
 
 -- all tokens
 
--- behind some tokens that led from s to u
-pub record Told (s : Stand) (at : At) (ks : List Tok) (u : Stand) : Type 0 where
-  pub is_good : Good u
-  pub so_far : stand_tokens u ≡ stand_tokens s ++ ks
-  pub place : Behind (stand_tokens u) (passed at ks)
+-- a stand that is reached behind some tokens
+pub record Told (s : Stand) (ks : List Tok) (at : At) : Type 0 where
+  pub is_good : Good s
+  pub so_far : stand_tokens s ≡ ks
+  pub place : Behind (stand_tokens s) at
 
-told_first : (s v u : Stand) (at : At) (k : Tok) (ks : List Tok) → stand_tokens v ≡ stand_tokens s ++ (k ∷ []) → Told v (past at k) ks u → Told s at (k ∷ ks) u
-told_first s v u at k ks e z = record { is_good = z.is_good; so_far = z.so_far ∙ ap (λ l. l ++ ks) e ∙ append_assoc (stand_tokens s) (k ∷ []) ks; place = z.place }
+told_next : (s : Stand) (ks : List Tok) (at : At) (k : Tok) (u : Stand) → Lexed k → Told s ks at → sheet_step limits s at k ≡ Ok u → Told u (ks ++ (k ∷ [])) (past at k)
+told_next s ks at k u l z e =
+    let (a, b) = subst (Said s k) e (said s at k l z.is_good z.place) in
+    record { is_good = a; so_far = b ∙ ap (λ js. js ++ (k ∷ [])) z.so_far; place = behind_past (stand_tokens s) at k (stand_tokens u) z.place b }
 
-pub tells : (s : Stand) (at : At) (ks : List Tok) (u : Stand) → AllByRecursion Lexed ks → Good s → Behind (stand_tokens s) at → reach limits s at ks ≡ Ok u → Told s at ks u
-tells s at [] u l g p e = subst (Told s at []) (same_ok e) (record { is_good = g; so_far = sym (append-nil (stand_tokens s)); place = p })
-tells s at (k ∷ ks) u l g p e =
-    let (v, q, r) = reach_first (sheet_step limits) s at k ks u e in
-    let (a, b) = subst (Said s k) q (said s at k l.0 g p) in
-    told_first s v u at k ks b (tells v (past at k) ks u l.1 a (behind_past (stand_tokens s) at k (stand_tokens v) p b) r)
+pub tells : (ks : List Tok) (u : Stand) → AllByRecursion Lexed ks → reach limits start origin ks ≡ Ok u → Told u ks (passed origin ks)
+tells ks u l e = all_along (sheet_step limits) Lexed Told told_next ks start [] origin u l (record { is_good = none 32; so_far = refl; place = refl }) e
 
 -- the cause of a refusal
 

@@ -11,7 +11,7 @@ use Rattle.reading.specs.Tokens.{Tok, a_name, a_number, an_instrument, a_variabl
 use Rattle.reading.specs.Numbers.{numbered}
 use Rattle.reading.specs.Laws.{AllDigits}
 use Rattle.reading.proofs.Digits.{numbers}
-use Rattle.reading.proofs.Lines.{heading_tokens}
+use Rattle.reading.proofs.Lines.{heading_tokens, blanked, spaced, spaced_push, spaced_blank, spaced_end}
 use Rattle.reading.specs.declared.fault.SheetFault.{SheetFault}
 use Rattle.reading.specs.Reading.{chain}
 use Rattle.sheet_reading.specs.Values.{Value, Grid, range_of, ValueIn, LineIn}
@@ -20,7 +20,7 @@ use Rattle.sheet_reading.specs.Sides.{on_left}
 use Rattle.sheet_reading.specs.Reading.{is_mark, is_word, wants_value, has_value, has_word, from_least, value_of, rules_may_come, on_line, behind_value, behind_word}
 use Rattle.sheet_reading.specs.Laws.{Behind}
 use Rattle.reading.proofs.Tokens.{Lexed}
-use Rattle.sheet_reading.proofs.Stands.{blanked, spaced, spaced_push, spaced_blank, spaced_end, value_tok, grid_tokens, front_tokens, the_word, grid_append, before_side, stand_tokens}
+use Rattle.sheet_reading.proofs.Stands.{value_tok, grid_tokens, front_tokens, the_word, grid_append, before_side, stand_tokens}
 use Rattle.sheet_reading.proofs.Causes.{Cause, not_here_cause}
 use Rattle.sheet_reading.proofs.SideTelling.{starts}
 use Rattle.sheet_reading.proofs.Ranges.{Small, range_small, part_push, part_full, grid_joined}
