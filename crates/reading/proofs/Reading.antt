@@ -25,7 +25,7 @@ module _ {sig : Sig} (good : Declared sig) (b : List ℕ) where
   accepted_run t e =
       let (s, r, q) = run_ends (step sig) ending (wants top) origin (tokens b) t e in
       let (m, same) = ended s (passed origin (tokens b)) t q in
-      let z = tells good (wants top) origin (tokens b) (has t m top) (tokens_lexed 0 b) tt refl (r ∙ ap Ok same) in
+      let z = tells good (tokens b) (has t m top) (tokens_lexed 0 b) (r ∙ ap Ok same) in
       (z.is_good.0, sym (whole_tokens 0 (text_of sig t)) ∙ ap whole z.so_far ∙ whole_tokens 0 b)
 
   refused_run : (f : TextFault) → run sig (wants top) origin (tokens b) ≡ Err f → FirstWrong sig b f
@@ -33,7 +33,7 @@ module _ {sig : Sig} (good : Declared sig) (b : List ℕ) where
       let y = run_stops (step sig) ending (wants top) origin (tokens b) f e in
       let ks : List Tok = take y.before (tokens b) in
       let w : Wrong = first_of (drop y.before (tokens b)) in
-      let z = tells good (wants top) origin ks y.state (All-take Lexed y.before (tokens b) (tokens_lexed 0 b)) tt refl y.there in
+      let z = tells good ks y.state (All-take Lexed y.before (tokens b) (tokens_lexed 0 b)) y.there in
       let there : There sig y.state (passed origin ks) = record { is_good = z.is_good; reached = ap (reach sig (wants top) origin) z.so_far ∙ y.there; place = z.place } in
       let c : Chosen sig ks w f = subst (λ l. Chosen sig l w f) z.so_far (gives good y.state (passed origin ks) w f there y.refuses) in
       record {

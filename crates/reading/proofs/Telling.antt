@@ -9,7 +9,7 @@ use Rattle.reading.specs.declared.token.At.{At}
 use Rattle.reading.specs.declared.token.Mark.{Mark}
 use Rattle.reading.specs.declared.token.Mark.TheVariants.{Opening, Closing, Comma, Equals, Dash, Blank, LineEnd}
 use Rattle.reading.specs.declared.fault.TextFault.{TextFault}
-use Rattle.reading.specs.Tokens.{Tok, a_name, a_number, an_instrument, a_variable, a_mark, a_stray, tokens, token_bytes, whole, lines, past}
+use Rattle.reading.specs.Tokens.{Tok, a_name, a_number, an_instrument, a_variable, a_mark, a_stray, tokens, token_bytes, whole, lines, origin, past}
 use Rattle.reading.specs.Numbers.{instrument_number}
 use Rattle.reading.specs.Reading.{Context, top, within, State, wants, opens, has, and_then, named, with_name, with_number, closed, continued, on_opens_mark, on_has_mark, step}
 use Rattle.reading.specs.Laws.{Behind, arguments_so_far}
@@ -20,7 +20,7 @@ use Rattle.reading.proofs.Lexing.{tokens_term}
 use Rattle.reading.proofs.Growing.{name_alone, tokens_opened, tokens_closed, tokens_continued}
 use Rattle.terms.proofs.Readable.{ticket_term}
 use Rattle.reading.proofs.Equal.{same_ok}
-use Rattle.reading.proofs.Running.{reach, passed, reach_first}
+use Rattle.reading.proofs.Running.{reach, passed, all_along}
 use Rattle.reading.proofs.States.{name_of, stack_tokens, state_tokens, arguments_then, awaiting_then, closing_then, ContextGood, Good, frame_next, frame_full}
 
 -- places
@@ -107,22 +107,20 @@ module _ {sig : Sig} (good : Declared sig) where
 
   -- all tokens
 
-  -- behind some tokens that led from s to u
-  pub record Told (s : State) (at : At) (ks : List Tok) (u : State) : Type 0 where
-    pub is_good : Good sig u
-    pub so_far : state_tokens sig u ≡ state_tokens sig s ++ ks
-    pub place : Behind (state_tokens sig u) (passed at ks)
-
-  told_first : (s v u : State) (at : At) (k : Tok) (ks : List Tok) → state_tokens sig v ≡ state_tokens sig s ++ (k ∷ []) → Told v (past at k) ks u → Told s at (k ∷ ks) u
-  told_first s v u at k ks e z = record { is_good = z.is_good; so_far = z.so_far ∙ ap (λ l. l ++ ks) e ∙ append_assoc (state_tokens sig s) (k ∷ []) ks; place = z.place }
-
   behind_past : (ks : List Tok) (at : At) (k : Tok) (ls : List Tok) → Behind ks at → lines k ≡ 0 → ls ≡ ks ++ (k ∷ []) → Behind ls (past at k)
   behind_past ks at k ls p q e =
       same_at (omega (arith, ap (λ x. x.place) p, ap (λ l. length (whole l)) e, length_whole ks k)) (omega (arith, ap (λ x. x.line) p))
 
-  pub tells : (s : State) (at : At) (ks : List Tok) (u : State) → AllByRecursion Lexed ks → Good sig s → Behind (state_tokens sig s) at → reach sig s at ks ≡ Ok u → Told s at ks u
-  tells s at [] u l g p e = subst (Told s at []) (same_ok e) (record { is_good = g; so_far = sym (append-nil (state_tokens sig s)); place = p })
-  tells s at (k ∷ ks) u l g p e =
-      let (v, q, r) = reach_first (step sig) s at k ks u e in
-      let (a, b, c) = subst (Keeps sig s k) q (keeps s at k l.0 g p) in
-      told_first s v u at k ks b (tells v (past at k) ks u l.1 a (behind_past (state_tokens sig s) at k (state_tokens sig v) p c b) r)
+  -- a state that is reached behind some tokens
+  pub record Told (s : State) (ks : List Tok) (at : At) : Type 0 where
+    pub is_good : Good sig s
+    pub so_far : state_tokens sig s ≡ ks
+    pub place : Behind (state_tokens sig s) at
+
+  told_next : (s : State) (ks : List Tok) (at : At) (k : Tok) (u : State) → Lexed k → Told s ks at → step sig s at k ≡ Ok u → Told u (ks ++ (k ∷ [])) (past at k)
+  told_next s ks at k u l z e =
+      let (a, b, c) = subst (Keeps sig s k) e (keeps s at k l z.is_good z.place) in
+      record { is_good = a; so_far = b ∙ ap (λ js. js ++ (k ∷ [])) z.so_far; place = behind_past (state_tokens sig s) at k (state_tokens sig u) z.place c b }
+
+  pub tells : (ks : List Tok) (u : State) → AllByRecursion Lexed ks → reach sig (wants top) origin ks ≡ Ok u → Told u ks (passed origin ks)
+  tells ks u l e = all_along (step sig) Lexed Told told_next ks (wants top) [] origin u l (record { is_good = tt; so_far = refl; place = refl }) e

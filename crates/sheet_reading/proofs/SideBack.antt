@@ -1,5 +1,5 @@
 -- A side's tokens are read as that side.
-use Rattle.std.proofs.Common.{◌≡◌, ℕ, suc, ◌+◌, ◌<◌, ◌≤◌, true, List, [], ◌∷◌, ◌++◌, Some, None, Ok, Err, Option, Result, sym, refl, ap, ◌∙◌, arith}
+use Rattle.std.proofs.Common.{◌≡◌, ℕ, suc, ◌+◌, ◌<◌, ◌≤◌, true, List, [], ◌∷◌, ◌++◌, Some, None, Ok, Err, Option, Result, sym, refl, ap, ◌∙◌, arith, decimal, length}
 use native.Mathlib.Nat.{le-max_left, le-max_right}
 use Rattle.std.proofs.lemmas.Bool.{cond-true, cond-false, and_from, lt-ltb, le-ltb, eq-eqb}
 use Rattle.terms.specs.Term.{Term, variable, instrument, apply, Terms, nil, cons, how_many, symbols, symbols_in}
@@ -10,13 +10,13 @@ use Rattle.terms.specs.Text.{text_of}
 use Rattle.terms.specs.Substitution.{occurrences, occurrences_in}
 use Rattle.reading.specs.declared.token.At.{At}
 use Rattle.reading.specs.declared.token.Mark.TheVariants.{Opening, Closing, Comma}
-use Rattle.reading.specs.Tokens.{Tok, a_name, a_mark, tokens, past}
-use Rattle.reading.specs.Reading.{Context, top, within, State, wants, has, and_then, named, with_number, chain}
+use Rattle.reading.specs.Tokens.{Tok, a_name, a_mark, tokens, past, an_instrument, a_variable}
+use Rattle.reading.specs.Reading.{Context, top, within, State, wants, has, and_then, named, with_number, chain, opens}
 use Rattle.reading.specs.Laws.{further_arguments, arguments_so_far}
 use Rattle.reading.proofs.Digits.{numbered_decimal}
 use Rattle.reading.proofs.Lexing.{closing, tokens_term}
 use Rattle.reading.proofs.Running.{passed, reach_join}
-use Rattle.reading.proofs.Back.{ComesTo, join, join_then, then_join, name_step}
+use Rattle.reading.proofs.Back.{name_step, Readable, reads_term}
 use Rattle.reading.specs.declared.fault.SheetFault.{SheetFault}
 use Rattle.sheet_reading.specs.Sheet.{Limits, SideWithin}
 use Rattle.sheet_reading.specs.Sides.{Hand, on_left, on_right, symbols_before, depth, occurrences_before, room, within_room, in_text, fronted, variable_on, side_step}
@@ -85,75 +85,43 @@ variable_stands on_left x k at h = cond-false _ _ _ (le-ltb 0 (occurrences_befor
 variable_stands (on_right l) x k at h = cond-true _ _ _ (lt-ltb 0 (occurrences x l) (h (omega (arith, itself x))))
 
 module _ {sig : Sig} (good : Declared sig) (m : Limits) (rules : ℕ) (room_for_rule : rules < m.rules) (d : Hand) where
-  abbrev reach : State → At → List Tok → Result State SheetFault
-  reach = side_reach m sig rules d
+  abbrev next : State → At → Tok → Result State SheetFault
+  next = side_step m sig rules d
 
-  -- some tokens are read as the term, wherever it fits
-  abbrev Reads : List Tok → Term → Type 0
-  Reads ks t = (k : Context) (at : At) → Fits m d t k → (b : Option At) × (reach (wants k) at ks ≡ Ok (has t b k))
+  -- one symbol more
+  fits_room : (t : Term) (k : Context) → Fits m d t k → 1 ≤ symbols t → 1 ≤ levels t → room m rules k ≡ true
+  fits_room t k h p q = has_room m rules k room_for_rule (omega (arith, h.few)) (omega (arith, h.low))
 
-  -- further arguments are read on
-  abbrev Further : Terms → Type 0
-  Further ts = (us : Terms) (u : Term) (b : Option At) (f : ℕ) (a : At) (k : Context) (at : At) → RowFits m d ts (and_then us u) k
-      → ComesTo (reach (has u b (within f a us (how_many ts) k)) at (further_arguments sig ts)) f a 0 k (join us (cons u ts))
+  variable_on_side : (x : ℕ) (k : Context) (at : At) → Fits m d (variable x) k → next (wants k) at (a_variable x) ≡ Ok (has (variable x) None k)
+  variable_on_side x k at h =
+      cond-true _ _ _ (fits_room (variable x) k h (omega arith) (omega arith))
+      ∙ ap (λ q. chain q (λ _. variable_on d x k at)) (passes_front d (variable x) k at (wants k) (λ z. z) h.in_front) ∙ variable_stands d x k at (h.may_stand x)
 
-  leads_row : (t : Term) (ts : Terms) → Reads (tokens (text_of sig t)) t → Further ts → (us : Terms) (f : ℕ) (a : At) (k : Context) (at : At) → RowFits m d (cons t ts) us k
-      → ComesTo (reach (wants (within f a us (how_many ts) k)) at (tokens (text_of sig t) ++ further_arguments sig ts)) f a 0 k (join us (cons t ts))
-  leads_row t ts h g us f a k at r =
-      let w : Context = within f a us (how_many ts) k in
-      let (b, p) = h w at (fits_first m d t ts us f a (how_many ts) k r) in
-      let (vs, v, c, q, e) = g us t b f a k (passed at (tokens (text_of sig t))) (fits_rest m d t ts us k r) in
-      (vs, v, c, q, reach_join (side_step m sig rules d) (wants w) at (tokens (text_of sig t)) (further_arguments sig ts) (has t b w) (has v c (within f a vs 0 k)) p e)
+  instrument_on_side : (n : ℕ) (k : Context) (at : At) → n ≤ 999999 → Fits m d (instrument n) k → next (wants k) at (an_instrument (35 ∷ decimal n)) ≡ Ok (has (instrument n) None k)
+  instrument_on_side n k at l h =
+      ap (λ o. chain (in_text (with_number o at k)) (λ u. within_room m rules k at (fronted d k at u))) (numbered_decimal 999999 n (omega arith) l)
+      ∙ cond-true _ _ _ (fits_room (instrument n) k h (omega arith) (omega arith)) ∙ passes_front d (instrument n) k at (has (instrument n) None k) (λ z. z) h.in_front
 
-  closes : (s : State) (at : At) (ks : List Tok) (f : ℕ) (a : At) (k : Context) (ts : Terms) → ComesTo (reach s at ks) f a 0 k ts → (b : Option At) × (reach s at (ks ++ (a_mark Closing ∷ [])) ≡ Ok (has (apply f ts) b k))
-  closes s at ks f a k ts h =
-      let (us, u, b, e, q) = h in
-      (None, reach_join (side_step m sig rules d) s at ks (a_mark Closing ∷ []) (has u b (within f a us 0 k)) (has (apply f ts) None k) q (ap (λ l. Ok (has (apply f l) None k)) e))
+  name_on_side : (f : ℕ) (ts : Terms) (k : Context) (at : At) → f < length sig → Fits m d (apply f ts) k → next (wants k) at (a_name (op_of sig f).name) ≡ Ok (named f (op_of sig f).arity at k)
+  name_on_side f ts k at l h = ap (λ q. chain (in_text q) (λ u. within_room m rules k at (Ok u))) (name_step good f l k at) ∙ cond-true _ _ _ (fits_room (apply f ts) k h (omega arith) (omega arith))
 
-  mutual
-    pub reads : (t : Term) → TermOf sig t → Reads (tokens (text_of sig t)) t
-    reads (variable x) h k at r = (
-      None,
-      ap (reach (wants k) at) (tokens_term good (variable x) h)
-          ∙ ap (λ q. chain q (λ u. Ok u))
-          (cond-true _ _ _ (has_room m rules k room_for_rule (omega (arith, r.few)) (omega (arith, r.low)))
-          ∙ ap (λ q. chain q (λ _. variable_on d x k at)) (passes_front d (variable x) k at (wants k) (λ z. z) r.in_front) ∙ variable_stands d x k at (r.may_stand x)),
-    )
-    reads (instrument n) h k at r = (
-      None,
-      ap (reach (wants k) at) (tokens_term good (instrument n) h)
-          ∙ ap (λ o. chain (chain (in_text (with_number o at k)) (λ u. within_room m rules k at (fronted d k at u))) (λ u. Ok u)) (numbered_decimal 999999 n (omega arith) h)
-          ∙ ap (λ q. chain q (λ u. Ok u))
-          (cond-true _ _ _ (has_room m rules k room_for_rule (omega (arith, r.few)) (omega (arith, r.low)))
-          ∙ passes_front d (instrument n) k at (has (instrument n) None k) (λ z. z) r.in_front),
-    )
-    reads (apply f ts) h k at r =
-        let w : Tok = a_name (op_of sig f).name in
-        let ks : List Tok = arguments_so_far sig ts ++ closing ts in
-        let (b, e) = reads_arguments ts h.2 f at k (past at w) (fits_arguments m d f ts k r) in (
-          b,
-          ap (reach (wants k) at) (tokens_term good (apply f ts) h)
-              ∙ ap (λ q. chain (chain (in_text q) (λ u. within_room m rules k at (Ok u))) (λ u. reach u (past at w) ks)) (name_step good f h.0 k at)
-              ∙ ap (λ q. chain q (λ u. reach u (past at w) ks)) (cond-true _ _ _ (has_room m rules k room_for_rule (omega (arith, r.few)) (omega (arith, r.low))))
-              ∙ ap (λ n. reach (named f n at k) (past at w) ks) (sym h.1) ∙ e,
-        )
-
-    reads_arguments : (ts : Terms) → TermsOf sig ts → (f : ℕ) (a : At) (k : Context) (at : At) → RowFits m d ts nil k → (b : Option At) × (reach (named f (how_many ts) a k) at (arguments_so_far sig ts ++ closing ts) ≡ Ok (has (apply f ts) b k))
-    reads_arguments nil h f a k at r = (Some a, refl)
-    reads_arguments (cons t ts) h f a k at r =
-        closes (wants (within f a nil (how_many ts) k)) (past at (a_mark Opening)) (tokens (text_of sig t) ++ further_arguments sig ts) f a k (cons t ts)
-        (leads_row t ts (reads t h.0) (reads_further ts h.1) nil f a k (past at (a_mark Opening)) r)
-
-    reads_further : (ts : Terms) → TermsOf sig ts → Further ts
-    reads_further nil h us u b f a k at r = (us, u, b, then_join us u, refl)
-    reads_further (cons t ts) h us u b f a k at r =
-        let (vs, v, c, q, e) = leads_row t ts (reads t h.0) (reads_further ts h.1) (and_then us u) f a k (past at (a_mark Comma)) r in
-        (vs, v, c, q ∙ join_then us u (cons t ts), e)
+  side_readable : Readable sig next (Fits m d) (RowFits m d)
+  side_readable = record {
+    arguments = fits_arguments m d;
+    first = fits_first m d;
+    others = fits_rest m d;
+    on_variable = variable_on_side;
+    on_instrument = instrument_on_side;
+    on_name = name_on_side;
+    on_opening = λ f a n k at. refl;
+    on_comma = λ t b f a us n k at. refl;
+    on_closing = λ t b f a us k at. refl;
+  }
 
   -- a side fits where it begins
   fits_side : (t : Term) (d : Hand) → HandShaped sig d t → SideWithin m t → Fits m d t top × TermOf sig t
   fits_side t on_left h w = (record { few = omega arith; low = omega arith; may_stand = λ x. omega (arith, h.linear x); in_front = h.operator_first }, h.is_term)
   fits_side t (on_right l) h w = (record { few = omega arith; low = omega arith; may_stand = λ x p. h.bound x (omega arith); in_front = tt }, h.is_term)
 
-  pub back : (t : Term) (at : At) → HandShaped sig d t → SideWithin m t → (b : Option At) × (reach (wants top) at (tokens (text_of sig t)) ≡ Ok (has t b top))
-  back t at h w = let (r, i) = fits_side t d h w in reads t i top at r
+  pub back : (t : Term) (at : At) → HandShaped sig d t → SideWithin m t → (b : Option At) × (side_reach m sig rules d (wants top) at (tokens (text_of sig t)) ≡ Ok (has t b top))
+  back t at h w = let (r, i) = fits_side t d h w in reads_term good next (Fits m d) (RowFits m d) side_readable t i top at r
