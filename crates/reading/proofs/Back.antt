@@ -6,9 +6,8 @@ use Rattle.terms.specs.Ticket.{Ticket, Tickets, TermOf, TermsOf}
 use Rattle.terms.specs.Text.{text_of}
 use Rattle.reading.specs.declared.token.At.{At}
 use Rattle.reading.specs.declared.token.Mark.TheVariants.{Opening, Closing, Comma}
-use Rattle.reading.specs.declared.fault.TextFault.{TextFault}
 use Rattle.reading.specs.Tokens.{Tok, a_name, a_mark, tokens, past, an_instrument, a_variable}
-use Rattle.reading.specs.Reading.{Context, within, State, wants, opens, has, and_then, named, with_name, with_number, chain, step}
+use Rattle.reading.specs.Reading.{Context, within, State, wants, opens, has, and_then, named, with_name, with_number, step}
 use Rattle.reading.specs.Laws.{further_arguments, arguments_so_far}
 use Rattle.reading.proofs.Digits.{numbered_decimal}
 use Rattle.reading.proofs.Names.{found_name}

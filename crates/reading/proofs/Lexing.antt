@@ -4,7 +4,7 @@ use Rattle.std.specs.List.{AllByRecursion}
 use Rattle.std.proofs.lemmas.Bool.{false≢true, cond-true, cond-false, or_parts, and_parts, leb-true, and_from, and_left, and_right, le-leb, lt-leb, ne_eqb}
 use Rattle.terms.specs.Term.{Term, variable, instrument, apply, Terms, nil, cons}
 use Rattle.terms.specs.Signature.{Sig, op_of, lower, digit, word, all_words, spelt, Declared}
-use Rattle.terms.specs.Ticket.{Ticket, Tickets, TermOf, TermsOf}
+use Rattle.terms.specs.Ticket.{TermOf, TermsOf}
 use Rattle.terms.specs.Text.{text_of, arguments_text, others_text}
 use Rattle.reading.specs.declared.token.Mark.TheVariants.{Opening, Closing, Comma}
 use Rattle.reading.specs.Tokens.{Tok, a_name, an_instrument, a_mark, front, first_token, token_bytes, tokens_from, tokens, a_variable}

@@ -6,7 +6,7 @@ use Rattle.terms.specs.Signature.{Sig}
 use Rattle.reading.specs.declared.token.At.{At}
 use Rattle.reading.specs.declared.fault.TextFault.{TextFault}
 use Rattle.reading.specs.Tokens.{Tok, past}
-use Rattle.reading.specs.Reading.{State, wants, opens, has, top, within, step, ending, chain, run_with, run}
+use Rattle.reading.specs.Reading.{State, wants, opens, has, top, within, step, ending, chain, run_with}
 use Rattle.reading.specs.Laws.{Wrong, first_of}
 use Rattle.reading.proofs.Equal.{not_both, same_ok, same_fault}
 

@@ -1,27 +1,25 @@
 -- Each token that is accepted is one more of the tokens read.
-use Rattle.std.proofs.Common.{◌≡◌, ℕ, zero, suc, ◌+◌, ◌<◌, List, [], ◌∷◌, ◌++◌, length, Some, None, Ok, Err, Option, Result, sym, refl, ap, ◌∙◌, subst, append_assoc, append-nil, arith, length-append}
+use Rattle.std.proofs.Common.{◌≡◌, ℕ, zero, suc, ◌+◌, ◌<◌, List, [], ◌∷◌, ◌++◌, length, Some, None, Ok, Err, Option, Result, sym, refl, ap, ◌∙◌, subst, arith, length-append}
 use Rattle.std.specs.List.{AllByRecursion}
-use Rattle.terms.specs.Term.{Term, instrument, apply, nil}
+use Rattle.terms.specs.Term.{Term, instrument, apply}
 use Rattle.terms.specs.Signature.{Sig, op_of, found, Declared}
 use Rattle.terms.specs.Ticket.{Ticket}
-use Rattle.terms.specs.Text.{text_of}
 use Rattle.reading.specs.declared.token.At.{At}
 use Rattle.reading.specs.declared.token.Mark.{Mark}
 use Rattle.reading.specs.declared.token.Mark.TheVariants.{Opening, Closing, Comma, Equals, Dash, Blank, LineEnd}
 use Rattle.reading.specs.declared.fault.TextFault.{TextFault}
-use Rattle.reading.specs.Tokens.{Tok, a_name, a_number, an_instrument, a_variable, a_mark, a_stray, tokens, token_bytes, whole, lines, origin, past}
+use Rattle.reading.specs.Tokens.{Tok, a_name, a_number, an_instrument, a_variable, a_mark, a_stray, token_bytes, whole, lines, origin, past}
 use Rattle.reading.specs.Numbers.{instrument_number}
 use Rattle.reading.specs.Reading.{Context, top, within, State, wants, opens, has, and_then, named, with_name, with_number, closed, continued, on_opens_mark, on_has_mark, step}
-use Rattle.reading.specs.Laws.{Behind, arguments_so_far}
+use Rattle.reading.specs.Laws.{Behind}
 use Rattle.reading.proofs.Digits.{instrument_is}
 use Rattle.reading.proofs.Names.{found_is}
 use Rattle.reading.proofs.Tokens.{Lexed}
 use Rattle.reading.proofs.Lexing.{tokens_term}
 use Rattle.reading.proofs.Growing.{name_alone, tokens_opened, tokens_closed, tokens_continued}
 use Rattle.terms.proofs.Readable.{ticket_term}
-use Rattle.reading.proofs.Equal.{same_ok}
 use Rattle.reading.proofs.Running.{reach, passed, all_along}
-use Rattle.reading.proofs.States.{name_of, stack_tokens, state_tokens, arguments_then, awaiting_then, closing_then, ContextGood, Good, frame_next, frame_full}
+use Rattle.reading.proofs.States.{name_of, stack_tokens, state_tokens, ContextGood, Good, frame_next, frame_full}
 
 -- places
 

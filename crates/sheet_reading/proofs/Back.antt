@@ -20,7 +20,7 @@ use Rattle.reading.specs.declared.fault.SheetFault.{SheetFault}
 use Rattle.sheet_reading.specs.Values.{Value, Grid, range_of, ValueIn, LineIn, GridIn}
 use Rattle.sheet_reading.specs.Sheet.{Sheet, SheetShaped, Limits, SideWithin, SheetWithin}
 use Rattle.sheet_reading.specs.Sides.{Hand, on_left, on_right, side_step}
-use Rattle.sheet_reading.specs.Reading.{is_mark, is_word, Stand, in_heading, wants_value, has_value, has_word, in_rule, Move, from_least, value_of, rules_may_come, ends_side, behind_side, sheet_step, headed}
+use Rattle.sheet_reading.specs.Reading.{is_mark, is_word, Stand, in_heading, wants_value, has_value, has_word, in_rule, from_least, value_of, rules_may_come, ends_side, behind_side, sheet_step, headed}
 use Rattle.sheet_reading.proofs.SideFacts.{LeftShaped, RightShaped, HandShaped, side_reach}
 use Rattle.sheet_reading.proofs.Stands.{reach, value_tok, grid_tokens, rule_tokens, rules_tokens, front_tokens, the_word, sheet_tokens}
 use Rattle.sheet_reading.proofs.SideBack.{back}

@@ -1,14 +1,14 @@
 -- What reading a sheet is.
-use Rattle.std.proofs.Common.{◌≡◌, ℕ, ◌≤◌, leb, List, [], ◌∷◌, ◌++◌, length, take, drop, Some, Ok, Err, Result, sym, refl, ap, ◌∙◌, subst, inl, inr, append-nil}
+use Rattle.std.proofs.Common.{◌≡◌, ℕ, ◌≤◌, leb, List, ◌++◌, length, take, drop, Ok, Err, Result, sym, refl, ap, ◌∙◌, subst, inl, inr, append-nil}
 use Rattle.std.specs.List.{AllByRecursion}
 use Rattle.std.proofs.lemmas.Bool.{cond-true, cond_both, le-leb, leb-true, leb-false}
 use Rattle.std.proofs.ByRecursion.{All-take, All-drop}
 use Rattle.reading.specs.declared.fault.TextFault.TheVariants.{PastLimit}
 use Rattle.reading.specs.Tokens.{Tok, tokens, whole, origin}
-use Rattle.reading.specs.Reading.{top, within, wants, opens, has, chain}
+use Rattle.reading.specs.Reading.{top, within, wants, opens, has}
 use Rattle.reading.specs.Heading.{sheet_limit}
 use Rattle.reading.specs.Laws.{Wrong, first_of}
-use Rattle.reading.proofs.Equal.{no_some, same_some, not_both, same_ok}
+use Rattle.reading.proofs.Equal.{not_both, same_ok}
 use Rattle.reading.proofs.Tokens.{whole_tokens, Lexed, tokens_lexed, first_lexed}
 use Rattle.reading.proofs.Running.{passed, run_on, run_ends, run_stops}
 use Rattle.reading.specs.declared.fault.SheetFault.{SheetFault}

@@ -1,21 +1,17 @@
 -- A side's tokens are read as that side.
-use Rattle.std.proofs.Common.{◌≡◌, ℕ, suc, ◌+◌, ◌<◌, ◌≤◌, true, List, [], ◌∷◌, ◌++◌, Some, None, Ok, Err, Option, Result, sym, refl, ap, ◌∙◌, arith, decimal, length}
+use Rattle.std.proofs.Common.{◌≡◌, ℕ, suc, ◌+◌, ◌<◌, ◌≤◌, true, ◌∷◌, None, Ok, Option, Result, refl, ap, ◌∙◌, arith, decimal, length}
 use native.Mathlib.Nat.{le-max_left, le-max_right}
 use Rattle.std.proofs.lemmas.Bool.{cond-true, cond-false, and_from, lt-ltb, le-ltb, eq-eqb}
-use Rattle.terms.specs.Term.{Term, variable, instrument, apply, Terms, nil, cons, how_many, symbols, symbols_in}
+use Rattle.terms.specs.Term.{Term, variable, instrument, apply, Terms, nil, cons, symbols, symbols_in}
 use Rattle.terms.specs.Rule.{levels, levels_in, OperatorFirst}
 use Rattle.terms.specs.Signature.{Sig, op_of, Declared}
-use Rattle.terms.specs.Ticket.{TermOf, TermsOf}
+use Rattle.terms.specs.Ticket.{TermOf}
 use Rattle.terms.specs.Text.{text_of}
 use Rattle.terms.specs.Substitution.{occurrences, occurrences_in}
 use Rattle.reading.specs.declared.token.At.{At}
-use Rattle.reading.specs.declared.token.Mark.TheVariants.{Opening, Closing, Comma}
-use Rattle.reading.specs.Tokens.{Tok, a_name, a_mark, tokens, past, an_instrument, a_variable}
-use Rattle.reading.specs.Reading.{Context, top, within, State, wants, has, and_then, named, with_number, chain, opens}
-use Rattle.reading.specs.Laws.{further_arguments, arguments_so_far}
+use Rattle.reading.specs.Tokens.{Tok, a_name, tokens, an_instrument, a_variable}
+use Rattle.reading.specs.Reading.{Context, top, within, State, wants, has, and_then, named, with_number, chain}
 use Rattle.reading.proofs.Digits.{numbered_decimal}
-use Rattle.reading.proofs.Lexing.{closing, tokens_term}
-use Rattle.reading.proofs.Running.{passed, reach_join}
 use Rattle.reading.proofs.Back.{name_step, Readable, reads_term}
 use Rattle.reading.specs.declared.fault.SheetFault.{SheetFault}
 use Rattle.sheet_reading.specs.Sheet.{Limits, SideWithin}

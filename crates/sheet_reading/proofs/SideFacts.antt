@@ -1,5 +1,5 @@
 -- What is said of a side and of its reading.
-use Rattle.std.proofs.Common.{◌≡◌, ℕ, ◌+◌, ◌≤◌, ◌⊎◌, List, [], ◌∷◌, ◌++◌, Some, None, Ok, Result}
+use Rattle.std.proofs.Common.{◌≡◌, ℕ, ◌+◌, ◌≤◌, ◌⊎◌, List, ◌++◌, Some, None, Result}
 use Rattle.terms.specs.Term.{Term}
 use Rattle.terms.specs.Rule.{OperatorFirst}
 use Rattle.terms.specs.Signature.{Sig, found}
@@ -9,8 +9,8 @@ use Rattle.reading.specs.declared.token.At.{At}
 use Rattle.reading.specs.declared.token.Mark.TheVariants.{Opening, Closing}
 use Rattle.reading.specs.declared.fault.TextFault.{TextFault}
 use Rattle.reading.specs.declared.fault.TextFault.TheVariants.{Stray, BadNumber, Unexpected, Undeclared, WrongArity, PastLimit}
-use Rattle.reading.specs.Tokens.{Tok, a_name, a_number, an_instrument, a_variable, a_stray, past}
-use Rattle.reading.specs.Reading.{top, State, wants, chain}
+use Rattle.reading.specs.Tokens.{Tok, a_name, a_number, an_instrument, a_variable, a_stray}
+use Rattle.reading.specs.Reading.{top, State, wants}
 use Rattle.reading.proofs.Running.{reach_with}
 use Rattle.reading.proofs.States.{state_tokens}
 use Rattle.reading.specs.declared.fault.SheetFault.{SheetFault}

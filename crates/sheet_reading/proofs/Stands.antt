@@ -1,14 +1,13 @@
 -- The tokens that are read where the reading of a sheet stands.
-use Rattle.std.proofs.Common.{◌≡◌, suc, ◌≤◌, List, [], ◌∷◌, ◌++◌, map, length, take, Some, None, codes, decimal, sym, refl, ap, ◌∙◌, append_assoc, append-nil, arith}
+use Rattle.std.proofs.Common.{◌≡◌, List, [], ◌∷◌, ◌++◌, map, length, Some, None, codes, decimal, sym, refl, ap, ◌∙◌, append_assoc, append-nil, arith}
 use Rattle.terms.specs.Rule.{Rule}
 use Rattle.terms.specs.Signature.{Sig}
 use Rattle.terms.specs.Text.{text_of}
 use Rattle.reading.specs.declared.token.At.{At}
 use Rattle.reading.specs.declared.token.Mark.TheVariants.{Equals, Dash, Blank, LineEnd}
-use Rattle.reading.specs.declared.heading.Stage.TheVariants.{WantsName, HasName, WantsCount, HasCount, Done}
+use Rattle.reading.specs.declared.heading.Stage.TheVariants.{WantsName}
 use Rattle.reading.specs.Tokens.{Tok, a_name, a_number, a_mark, tokens, whole, lines, past}
-use Rattle.reading.specs.Heading.{Head}
-use Rattle.reading.proofs.Lines.{follow, line, name_tok, count_tok, heading_tokens, blanked, spaced}
+use Rattle.reading.proofs.Lines.{line, name_tok, heading_tokens, blanked, spaced}
 use Rattle.reading.proofs.Running.{reach_with}
 use Rattle.reading.proofs.States.{state_tokens}
 use Rattle.reading.proofs.Telling.{same_at, length_whole}

@@ -3,14 +3,13 @@ use Rattle.std.proofs.Common.{◌≡◌, ℕ, ◌+◌, ◌≤◌, List, [], ◌�
 use Rattle.std.specs.List.{AllByRecursion}
 use Rattle.terms.specs.Term.{Term, symbols}
 use Rattle.terms.specs.Rule.{Rule, levels}
-use Rattle.reading.specs.declared.heading.Stage.TheVariants.{WantsName}
 use Rattle.reading.specs.Tokens.{Tok, tokens, origin}
 use Rattle.reading.specs.Laws.{Wrong}
 use Rattle.reading.proofs.Equal.{not_both, same_ok}
 use Rattle.reading.proofs.Running.{passed, reach_split, reach_first, Refuses}
 use Rattle.reading.specs.declared.fault.SheetFault.{SheetFault}
 use Rattle.sheet_reading.specs.Sheet.{Sheet, SheetShaped, Limits, limits, SheetWithin, sheet_text}
-use Rattle.sheet_reading.specs.Reading.{Stand, in_heading, sheet_step, sheet_end}
+use Rattle.sheet_reading.specs.Reading.{Stand, sheet_step, sheet_end}
 use Rattle.sheet_reading.specs.Laws.{StuckAt}
 use Rattle.sheet_reading.proofs.SideFacts.{More, OfLimit}
 use Rattle.sheet_reading.proofs.Stands.{reach, start}

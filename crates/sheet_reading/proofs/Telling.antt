@@ -1,5 +1,5 @@
 -- Each token that is accepted is one more of the tokens read, and one that is refused has its cause.
-use Rattle.std.proofs.Common.{◌≡◌, List, [], ◌∷◌, ◌++◌, Some, None, Ok, Err, sym, refl, ap, ◌∙◌, subst, append_assoc, append-nil, arith}
+use Rattle.std.proofs.Common.{◌≡◌, List, [], ◌∷◌, ◌++◌, Some, None, Ok, Err, sym, refl, ap, ◌∙◌, subst, append-nil, arith}
 use Rattle.std.specs.List.{AllByRecursion}
 use Rattle.terms.specs.Signature.{Sig}
 use Rattle.reading.specs.declared.token.At.{At}
@@ -8,7 +8,7 @@ use Rattle.reading.specs.Tokens.{Tok, past, origin}
 use Rattle.reading.specs.Reading.{top, within, wants, opens, has, chain}
 use Rattle.reading.specs.Heading.{Head, Outcome, head_step}
 use Rattle.reading.specs.Laws.{Wrong}
-use Rattle.reading.proofs.Equal.{no_some, not_both, same_ok, same_fault}
+use Rattle.reading.proofs.Equal.{no_some, not_both, same_fault}
 use Rattle.reading.proofs.Lines.{heading_tokens}
 use Rattle.reading.proofs.Running.{passed, all_along, Refuses}
 use Rattle.reading.specs.declared.fault.SheetFault.{SheetFault}
