@@ -4,14 +4,14 @@ use mathlib.Core.Logic.{∥∥₁_elim}
 use base.Stored.{Coded-set, coded_list}
 use Rattle.std.proofs.lemmas.Bool.{cases_lt}
 use Rattle.terms.specs.declared.symbol.Symbol.{Symbol}
-use Rattle.terms.specs.declared.symbol.Symbol.TheVariants.{Vacant, Variable, Instrument, Operator}
+use Rattle.terms.specs.declared.symbol.Symbol.TheVariants.{Variable, Instrument, Operator}
 use Rattle.terms.specs.declared.node.Node.{Node}
 use Rattle.terms.specs.declared.layout.Layout.{Layout}
 use Rattle.terms.specs.contracts.node.Node as node_type
-use Rattle.terms.specs.Term.{Term, Terms, how_many, symbols}
+use Rattle.terms.specs.Term.{Term, instrument, Terms, how_many, symbols}
 use Rattle.terms.specs.View.{Stands}
 use Rattle.terms.specs.Nodes.{node_answers, laid}
-use Rattle.terms.specs.Layout.{in_use, Pushed}
+use Rattle.terms.specs.Layout.{in_use, LaysOut, Pushed}
 use Rattle.terms.specs.Rule.{levels}
 use Rattle.terms.specs.Off.{term_with, row_with, read_off, arguments_off}
 use Rattle.terms.proofs.Nodes.{argument_past}
@@ -26,13 +26,12 @@ nodes_set : IsSet (List Node)
 nodes_set = Coded-set (coded_list (node_type.the_row).coded)
 
 -- the nodes in use are those of the term
-pub side_laid : (s : Side) → in_use s.nodes ≡ laid 0 None (side_of s)
-side_laid s = ∥∥₁_elim s.laid (nodes_set _ _) (λ e. e)
+pub side_laid : (s : Side) → LaysOut s.nodes (side_of s)
+side_laid s = ∥∥₁_elim s.laid.are_laid (nodes_set _ _) (λ e. e)
 
 -- what is read off nodes has no operator over more than three arguments
 narrow_with : (s : Option Symbol) (ts : Terms) → how_many ts ≤ 3 → AllNarrow ts → Narrow (term_with s ts)
 narrow_with None ts few h = tt
-narrow_with (Some Vacant) ts few h = tt
 narrow_with (Some (Variable x)) ts few h = tt
 narrow_with (Some (Instrument m)) ts few h = tt
 narrow_with (Some (Operator f)) ts few h = (few, h)
@@ -74,17 +73,17 @@ pub side_stands : (s : Side) → Stands (side_answers s) 0 (side_of s)
 side_stands s = laid_stands (in_use s.nodes) (side_of s) (side_narrow s) (side_laid s)
 
 -- the layout of a term of at most 32 symbols holds it
-pub held : {N : ℕ} (l : Layout N) (t : Term) → Narrow t → symbols t ≤ 32 → in_use l ≡ laid 0 None t → term_in l ≡ t
+pub held : {N : ℕ} (l : Layout N) (t : Term) → Narrow t → symbols t ≤ 32 → LaysOut l t → term_in l ≡ t
 unfolding term_in
 held l t h few e = off_stands (node_answers (in_use l)) 0 t 64 (laid_stands (in_use l) t h e) (omega arith)
 
 -- and if it has at most 16 levels, a side can be made of it
-pub laid_side : {N : ℕ} (l : Layout N) (t : Term) → Narrow t → symbols t ≤ 32 → levels t ≤ 16 → in_use l ≡ laid 0 None t → LaidSide l
+pub laid_side : {N : ℕ} (l : Layout N) (t : Term) → Narrow t → symbols t ≤ 32 → levels t ≤ 16 → LaysOut l t → LaidSide l
 laid_side l t h few low e =
     let same = held l t h few e in
     record { are_laid = ∣ e ∙ ap (laid 0 None) (sym same) ∣₁; counted = ap length e ∙ length-laid 0 None t ∙ ap symbols (sym same); few = omega (arith, ap levels same) }
 
--- the first node that is put into an empty layout
-pub pushed_first : (ns : List Node) (n : Node) (ms : List Node) (r : Option ℕ) → ns ≡ [] → Pushed 32 ns n ms r → ms ≡ n ∷ []
-pushed_first ns n ms None e (same, full) = absurd (omega (arith, ap length e))
-pushed_first ns n ms (Some p) e (pushed, _, _) = pushed ∙ ap (λ l. l ++ n ∷ []) e
+-- a layout of one instrument
+pub laid_instrument : {N : ℕ} (l : Layout N) (before : List Node) (n : Node) (p : Option ℕ) → before ≡ [] → n ≡ record { symbol = Some (Instrument 1); first = None; next = None } → 0 < N → Pushed N before n (in_use l) p → LaidSide l
+laid_instrument l before n None none is room (same, full) = absurd (omega (arith, ap length none))
+laid_instrument l before n (Some p) none is room (pushed, _, _) = laid_side l (instrument 1) tt (omega arith) (omega arith) (pushed ∙ ap (λ ns. ns ++ n ∷ []) none ∙ ap (λ x. x ∷ []) is)

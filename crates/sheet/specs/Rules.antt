@@ -1,13 +1,18 @@
--- The rules that an array of them stands for.
+-- The rules that stored ones stand for.
 use Rattle.std.specs.Prelude.{ℕ, ◌<◌, List, map, length, slice_index_or}
 use Rattle.terms.specs.Rule.{Rule, RuleOf}
 use Rattle.terms.specs.Signature.{Sig}
 use Rattle.terms.specs.Term.{instrument}
 use Rattle.sheet.specs.Sides.{side_of}
+use Rattle.sheet.specs.declared.side.Side.{Side}
 use Rattle.sheet.specs.declared.rule.Rule.{Rule as Stored}
 
+-- the rule of two sides
+abbrev pub rule_between : Side → Side → Rule
+rule_between left right = record { left = side_of left; right = side_of right }
+
 abbrev pub rule_of : Stored → Rule
-rule_of r = record { left = side_of r.left; right = side_of r.right }
+rule_of r = rule_between r.left r.right
 
 abbrev pub rules_from : List Stored → List Rule
 rules_from rs = map rule_of rs

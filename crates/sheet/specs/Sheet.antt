@@ -1,5 +1,6 @@
 -- What a sheet holds.
-use Rattle.std.specs.Prelude.{◌≡◌, Bool, false, List, [], take}
+use Rattle.std.specs.Prelude.{◌≡◌, Bool, false, List, []}
+use Rattle.fixed_vec.specs.FixedVec.{items}
 use Rattle.terms.specs.Rule.{Rule}
 use Rattle.terms.specs.Signature.{Sig}
 use Rattle.signature.specs.Declaring.{sig_of}
@@ -10,7 +11,7 @@ abbrev pub operators_of : Sheet → Sig
 operators_of s = sig_of s.signature
 
 abbrev pub rules_of : Sheet → List Rule
-rules_of s = rules_from (take s.len s.rules)
+rules_of s = rules_from (items s.rules)
 
 abbrev pub is_admitted : Sheet → Bool
 is_admitted s = s.admitted

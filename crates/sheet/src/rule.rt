@@ -1,6 +1,6 @@
 ghost use Rattle.std.specs.Prelude.{◌≡◌};
 ghost use Rattle.sheet.specs.Sides.{side_of};
-ghost use Rattle.sheet.specs.Rules.{rule_of};
+ghost use Rattle.sheet.specs.Rules.{rule_between, rule_of};
 
 use crate::side::Side;
 
@@ -13,19 +13,11 @@ pub struct Rule {
 
 impl Rule {
     pub(crate) fn new(left: &Side, right: &Side) -> Rule
-        ensures { rule_of result ≡ record { left = side_of left.now; right = side_of right.now } }
+        ensures { rule_of result ≡ rule_between left.now right.now }
     {
         Rule {
             left: *left,
             right: *right,
-        }
-    }
-
-    // A rule that fills a place that is not in use.
-    pub(crate) fn blank() -> Rule {
-        Rule {
-            left: Side::blank(),
-            right: Side::blank(),
         }
     }
 

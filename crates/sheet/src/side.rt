@@ -1,9 +1,4 @@
-ghost use Rattle.std.specs.Prelude.{◌≡◌, ◌≤◌, length, None};
-ghost use Rattle.terms.specs.Term.{symbols};
-ghost use Rattle.terms.specs.Nodes.{laid};
-ghost use Rattle.terms.specs.Layout.{in_use};
-ghost use Rattle.terms.specs.Rule.{levels};
-ghost use Rattle.sheet.specs.Terms.{term_in};
+ghost use Rattle.sheet.specs.Terms.{LaidSide};
 
 use terms::layout::Layout;
 
@@ -13,7 +8,5 @@ pub mod viewing;
 #[derive(Clone, Copy)]
 pub struct Side {
     nodes: Layout<32>,
-    ghost laid: { ∥ in_use nodes ≡ laid 0 None (term_in nodes) ∥₁ },
-    ghost counted: { length (in_use nodes) ≡ symbols (term_in nodes) },
-    ghost few: { levels (term_in nodes) ≤ 16 },
+    ghost laid: { LaidSide nodes },
 }

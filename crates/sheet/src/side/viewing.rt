@@ -21,12 +21,12 @@ impl Side {
     }
 
     // A side of one instrument.
+    #[tactic(auto, using(crate::proofs::Sides::laid_instrument))]
     pub(crate) fn blank() -> Side {
         let mut nodes = Layout::new();
         let _ = nodes.push(Node {
-            symbol: Symbol::Instrument(1),
-            first: None,
-            next: None,
+            symbol: Some(Symbol::Instrument(1)),
+            ..Node::VACANT
         });
         Side::new(&nodes)
     }
@@ -40,6 +40,7 @@ impl Side {
     }
 
     // The place of its term as a view. The term has at most 16 levels.
+    #[tactic(auto, using(crate::proofs::Sides::side_stands))]
     pub fn root(&self) -> u16
         ensures value { result ≡ 0 }
         ensures stands { Stands (side_answers self.now) result (side_of self.now) }
