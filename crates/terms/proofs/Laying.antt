@@ -47,9 +47,9 @@ mutual
 
 -- one sibling further
 along_suc : (ns : List Node) (l : Option ℕ) (k q : ℕ) → along ns l k ≡ Some q → along ns l (suc k) ≡ (get_or ns q vacant).next
-along_suc ns None zero q e = absurd (let z : ◌≡◌ {A = ℕ} 0 1 = cc in omega arith)
+along_suc ns None zero q e = cc
 along_suc ns (Some p) zero q e = let h : p ≡ q = cc in ap (λ n. (get_or ns n vacant).next) h
-along_suc ns None (suc k) q e = absurd (let z : ◌≡◌ {A = ℕ} 0 1 = cc in omega arith)
+along_suc ns None (suc k) q e = cc
 along_suc ns (Some p) (suc k) q e = along_suc ns (get_or ns p vacant).next k q e
 
 root_next : (i : ℕ) (l : Option ℕ) (t : Term) (rest : List Node) → (get_or (laid i l t ++ rest) 0 vacant).next ≡ l

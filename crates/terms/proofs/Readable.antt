@@ -1,6 +1,7 @@
 -- A text is the text of one term at most: two terms whose texts agree, each with a rest that begins with no letter or digit, are equal.
 use Rattle.std.proofs.Common.{◌≡◌, ℕ, ◌+◌, ◌%◌, ◌<◌, ◌≤◌, true, false, ◌&&◌, leb, List, [], ◌∷◌, ◌++◌, length, decimal, sym, refl, ap, ◌∙◌, append_assoc, arith}
 use Rattle.std.proofs.lemmas.Fmt.{decimal_by_steps, decimal_injective}
+use Rattle.std.proofs.lemmas.List.Folds.{list_all-append}
 use Rattle.std.proofs.lemmas.Bool.{both_ways, and_parts, and_from, or_left, or_right, leb-true, le-leb}
 use Rattle.terms.specs.Term.{Term, variable, instrument, apply, Terms, nil, cons, how_many}
 use Rattle.terms.specs.Signature.{Sig, op_of, lower, digit, word, all_words, spelt, Declared}
@@ -13,9 +14,6 @@ abbrev Ended : List ℕ → Type 0
 Ended [] = Unit {0}
 Ended (b ∷ bs) = word b ≡ false
 
-no_nil : {b : ℕ} {bs : List ℕ} → [] ≡ b ∷ bs → ⊥
-no_nil e = let z : ◌≡◌ {A = ℕ} 0 1 = cc in omega arith
-
 head_of : {b c : ℕ} {bs cs : List ℕ} → b ∷ bs ≡ c ∷ cs → b ≡ c
 head_of e = cc
 
@@ -25,24 +23,20 @@ tail_of e = cc
 -- two runs of letters and digits, each with what ends it
 runs : (xs ys r q : List ℕ) → all_words xs ≡ true → all_words ys ≡ true → Ended r → Ended q → xs ++ r ≡ ys ++ q → (xs ≡ ys) × (r ≡ q)
 runs [] [] r q wx wy hr hq e = (refl, e)
-runs [] (y ∷ ys) [] q wx wy hr hq e = absurd (no_nil e)
+runs [] (y ∷ ys) [] q wx wy hr hq e = cc
 runs [] (y ∷ ys) (b ∷ bs) q wx wy hr hq e = absurd (both_ways (word b) hr (ap word (head_of e) ∙ (and_parts (word y) _ wy).0))
-runs (x ∷ xs) [] r [] wx wy hr hq e = absurd (no_nil (sym e))
+runs (x ∷ xs) [] r [] wx wy hr hq e = cc
 runs (x ∷ xs) [] r (b ∷ bs) wx wy hr hq e = absurd (both_ways (word b) hq (ap word (sym (head_of e)) ∙ (and_parts (word x) _ wx).0))
 runs (x ∷ xs) (y ∷ ys) r q wx wy hr hq e =
     let (a, b) = runs xs ys r q (and_parts (word x) _ wx).1 (and_parts (word y) _ wy).1 hr hq (tail_of e) in
     let h : x ≡ y = head_of e in
     (cc, b)
 
-words_append : (xs ys : List ℕ) → all_words xs ≡ true → all_words ys ≡ true → all_words (xs ++ ys) ≡ true
-words_append [] ys a b = b
-words_append (x ∷ xs) ys a b = let (p, q) = and_parts (word x) (all_words xs) a in and_from _ _ p (words_append xs ys q b)
-
 digit_word : (k : ℕ) → k < 10 → all_words ((48 + k) ∷ []) ≡ true
 digit_word k h = and_from _ _ (or_right (lower (48 + k)) _ (and_from _ _ (le-leb 48 (48 + k) (omega arith)) (le-leb (48 + k) 57 (omega arith)))) refl
 
 pub decimal_words : (n : ℕ) → n ≤ 999999 → all_words (decimal n) ≡ true
-decimal_words n h = decimal_by_steps (λ _ ds. all_words ds ≡ true) (λ k j. digit_word k j) (λ k ds j w. words_append ds ((48 + k % 10) ∷ []) w (digit_word (k % 10) (omega arith))) n (omega arith)
+decimal_words n h = decimal_by_steps (λ _ ds. all_words ds ≡ true) (λ k j. digit_word k j) (λ k ds j w. list_all-append word ds ((48 + k % 10) ∷ []) ∙ and_from _ _ w (digit_word (k % 10) (omega arith))) n (omega arith)
 
 pub spelt_words : (bs : List ℕ) → spelt bs ≡ true → all_words bs ≡ true
 spelt_words [] e = refl

@@ -1,5 +1,5 @@
 -- Terms that stand at the places of a view.
-use Rattle.std.proofs.Common.{◌≡◌, ℕ, suc, ◌+◌, ◌%◌, Some, None, Option, refl, ap, subst, arith}
+use Rattle.std.proofs.Common.{◌≡◌, ℕ, suc, ◌+◌, ◌%◌, Some, None, Option, refl, ap, subst}
 use Rattle.terms.specs.declared.symbol.Symbol.{Symbol}
 use Rattle.terms.specs.declared.symbol.Symbol.TheVariants.{Variable, Instrument, Operator}
 use Rattle.terms.specs.Term.{Term, variable, instrument, apply, Terms, nil, cons}
@@ -7,37 +7,26 @@ use Rattle.terms.specs.Substitution.{fill_all, renamed}
 use Rattle.terms.specs.View.{Answers, Stands, StandFrom, renamed_symbol, renamed_answers}
 use Rattle.terms.specs.Laws.{OneAtAPlace, RenamedStand}
 
-clash : {s r : Symbol} {o : Option Symbol} → o ≡ Some s → o ≡ Some r → s ≡ r
-clash p q = cc
-
-ends : {q : ℕ} {o : Option ℕ} → o ≡ None → o ≡ Some q → ⊥
-ends p e = let z : ◌≡◌ {A = ℕ} 0 1 = cc in omega arith
-
 -- at most one term at a place
 mutual
   pub one_at_a_place : OneAtAPlace
-  one_at_a_place v p (variable x) (variable y) a b = let e : Variable x ≡ Variable y = clash a.0 b.0 in cc
-  one_at_a_place v p (variable x) (instrument n) a b = let e : Variable x ≡ Instrument n = clash a.0 b.0 in cc
-  one_at_a_place v p (variable x) (apply f ts) a b = let e : Variable x ≡ Operator f = clash a.0 b.0 in cc
-  one_at_a_place v p (instrument n) (variable y) a b = let e : Instrument n ≡ Variable y = clash a.0 b.0 in cc
-  one_at_a_place v p (instrument n) (instrument m) a b = let e : Instrument n ≡ Instrument m = clash a.0 b.0 in cc
-  one_at_a_place v p (instrument n) (apply f ts) a b = let e : Instrument n ≡ Operator f = clash a.0 b.0 in cc
-  one_at_a_place v p (apply f ts) (variable y) a b = let e : Operator f ≡ Variable y = clash a.0 b.0 in cc
-  one_at_a_place v p (apply f ts) (instrument m) a b = let e : Operator f ≡ Instrument m = clash a.0 b.0 in cc
-  one_at_a_place v p (apply f ts) (apply g us) a b =
-      let e : Operator f ≡ Operator g = clash a.0 b.0 in
-      let h = one_row v p 0 ts us a.1 b.1 in
-      cc
+  one_at_a_place v p (variable x) (variable y) a b = cc (a.0, b.0)
+  one_at_a_place v p (variable x) (instrument n) a b = cc (a.0, b.0)
+  one_at_a_place v p (variable x) (apply f ts) a b = cc (a.0, b.0)
+  one_at_a_place v p (instrument n) (variable y) a b = cc (a.0, b.0)
+  one_at_a_place v p (instrument n) (instrument m) a b = cc (a.0, b.0)
+  one_at_a_place v p (instrument n) (apply f ts) a b = cc (a.0, b.0)
+  one_at_a_place v p (apply f ts) (variable y) a b = cc (a.0, b.0)
+  one_at_a_place v p (apply f ts) (instrument m) a b = cc (a.0, b.0)
+  one_at_a_place v p (apply f ts) (apply g us) a b = cc (a.0, b.0, one_row v p 0 ts us a.1 b.1)
 
   one_row : (v : Answers) (p k : ℕ) (ts us : Terms) → StandFrom v p k ts → StandFrom v p k us → ts ≡ us
   one_row v p k nil nil a b = refl
-  one_row v p k nil (cons u us) a b = absurd (ends a b.1)
-  one_row v p k (cons t ts) nil a b = absurd (ends b a.1)
+  one_row v p k nil (cons u us) a b = cc (a, b.1)
+  one_row v p k (cons t ts) nil a b = cc (b, a.1)
   one_row v p k (cons t ts) (cons u us) a b =
-      let q : a.0 ≡ b.0 = (let e = a.1 in let h = b.1 in cc) in
-      let h = one_at_a_place v b.0 t u (subst (λ n. Stands v n t) q a.2) b.2 in
-      let i = one_row v p (suc k) ts us a.3 b.3 in
-      cc
+      let q : a.0 ≡ b.0 = cc (a.1, b.1) in
+      cc (one_at_a_place v b.0 t u (subst (λ n. Stands v n t) q a.2) b.2, one_row v p (suc k) ts us a.3 b.3)
 
 -- a renamed view has the renamed terms
 mutual
@@ -52,20 +41,20 @@ mutual
 
 -- and no others
 before_variable : (o : Option Symbol) (y : ℕ) → renamed_symbol o ≡ Some (Variable y) → (x : ℕ) × (o ≡ Some (Variable x)) × (y ≡ (x + 8) % 16)
-before_variable None y e = absurd (let z : ◌≡◌ {A = ℕ} 0 1 = cc in omega arith)
+before_variable None y e = cc
 before_variable (Some (Variable x)) y e = (x, refl, cc)
-before_variable (Some (Instrument n)) y e = absurd (let z : ◌≡◌ {A = ℕ} 0 1 = cc in omega arith)
-before_variable (Some (Operator f)) y e = absurd (let z : ◌≡◌ {A = ℕ} 0 1 = cc in omega arith)
+before_variable (Some (Instrument n)) y e = cc
+before_variable (Some (Operator f)) y e = cc
 
 before_instrument : (o : Option Symbol) (n : ℕ) → renamed_symbol o ≡ Some (Instrument n) → o ≡ Some (Instrument n)
 before_instrument None n e = e
-before_instrument (Some (Variable x)) n e = absurd (let z : ◌≡◌ {A = ℕ} 0 1 = cc in omega arith)
+before_instrument (Some (Variable x)) n e = cc
 before_instrument (Some (Instrument m)) n e = e
 before_instrument (Some (Operator f)) n e = e
 
 before_operator : (o : Option Symbol) (f : ℕ) → renamed_symbol o ≡ Some (Operator f) → o ≡ Some (Operator f)
 before_operator None f e = e
-before_operator (Some (Variable x)) f e = absurd (let z : ◌≡◌ {A = ℕ} 0 1 = cc in omega arith)
+before_operator (Some (Variable x)) f e = cc
 before_operator (Some (Instrument m)) f e = e
 before_operator (Some (Operator g)) f e = e
 

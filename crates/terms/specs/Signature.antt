@@ -11,9 +11,13 @@ pub record Op : Type 0 where
 abbrev pub Sig : Type 0
 Sig = List Op
 
+-- an operator without a name and without arguments
+abbrev pub nameless : Op
+nameless = record { name = []; arity = 0 }
+
 -- the operator of a number; past the declared ones, a nameless one
 abbrev pub op_of : Sig → ℕ → Op
-op_of sig f = slice_index_or sig f (record { name = []; arity = 0 })
+op_of sig f = slice_index_or sig f nameless
 
 -- 'a' to 'z'
 abbrev pub lower : ℕ → Bool
