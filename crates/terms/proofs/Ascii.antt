@@ -1,19 +1,18 @@
 -- The text of a ticket is ASCII.
-use Rattle.std.proofs.Common.{◌≡◌, ℕ, ◌<◌, true, leb, List, [], ◌∷◌, IsAscii, ⊎_elim, arith}
+use Rattle.std.proofs.Common.{◌≡◌, ℕ, ◌<◌, true, List, [], ◌∷◌, IsAscii, arith}
 use Rattle.std.proofs.lemmas.Str.Ascii.{IsAscii-nil, IsAscii-cons}
 use Rattle.std.proofs.lemmas.Str.{IsAscii-append}
 use Rattle.std.proofs.lemmas.Fmt.{IsAscii-decimal}
-use Rattle.std.proofs.lemmas.Bool.{and_parts, or_cases, leb-true}
+use Rattle.std.proofs.lemmas.Bool.Decides.{nat_tests}
+use Rattle.std.proofs.lemmas.Bool.{and_parts}
 use Rattle.terms.specs.Term.{Term, variable, instrument, apply, Terms, nil, cons}
-use Rattle.terms.specs.Signature.{Sig, op_of, lower, digit, word, all_words, Declared}
+use Rattle.terms.specs.Signature.{Sig, op_of, word, all_words, Declared}
 use Rattle.terms.specs.Ticket.{Ticket, Tickets}
 use Rattle.terms.specs.Text.{text_of, arguments_text, others_text}
 use Rattle.terms.proofs.Readable.{spelt_words}
 
 word_ascii : (b : ℕ) → word b ≡ true → b < 128
-word_ascii b e =
-    ⊎_elim (λ l. omega (arith, leb-true b 122 (and_parts (leb 97 b) (leb b 122) l).1)) (λ d. omega (arith, leb-true b 57 (and_parts (leb 48 b) (leb b 57) d).1))
-    (or_cases (lower b) (digit b) e)
+word_ascii b e = grind (arith, nat_tests)
 
 words_ascii : (bs : List ℕ) → all_words bs ≡ true → IsAscii bs
 words_ascii [] e = IsAscii-nil

@@ -1,10 +1,11 @@
 -- A text is the text of one term at most: two terms whose texts agree, each with a rest that begins with no letter or digit, are equal.
-use Rattle.std.proofs.Common.{◌≡◌, ℕ, ◌+◌, ◌%◌, ◌<◌, ◌≤◌, true, false, ◌&&◌, leb, List, [], ◌∷◌, ◌++◌, length, decimal, sym, refl, ap, ◌∙◌, append_assoc, arith}
+use Rattle.std.proofs.Common.{◌≡◌, ℕ, ◌+◌, ◌%◌, ◌<◌, ◌≤◌, true, false, List, [], ◌∷◌, ◌++◌, decimal, sym, refl, ap, ◌∙◌, append_assoc, arith}
 use Rattle.std.proofs.lemmas.Fmt.{decimal_by_steps, decimal_injective}
 use Rattle.std.proofs.lemmas.List.Folds.{list_all-append}
-use Rattle.std.proofs.lemmas.Bool.{both_ways, and_parts, and_from, or_left, or_right, leb-true, le-leb}
+use Rattle.std.proofs.lemmas.Bool.Decides.{nat_tests}
+use Rattle.std.proofs.lemmas.Bool.{both_ways, and_parts, and_from}
 use Rattle.terms.specs.Term.{Term, variable, instrument, apply, Terms, nil, cons, how_many}
-use Rattle.terms.specs.Signature.{Sig, op_of, lower, digit, word, all_words, spelt, Declared}
+use Rattle.terms.specs.Signature.{Sig, op_of, word, all_words, spelt, Declared}
 use Rattle.terms.specs.Ticket.{TermOf, TermsOf, Ticket, Tickets}
 use Rattle.terms.specs.Text.{text_of, arguments_text, others_text}
 use Rattle.terms.specs.Laws.{UniqueText, UniqueTermText}
@@ -33,21 +34,21 @@ runs (x ∷ xs) (y ∷ ys) r q wx wy hr hq e =
     (cc, b)
 
 digit_word : (k : ℕ) → k < 10 → all_words ((48 + k) ∷ []) ≡ true
-digit_word k h = and_from _ _ (or_right (lower (48 + k)) _ (and_from _ _ (le-leb 48 (48 + k) (omega arith)) (le-leb (48 + k) 57 (omega arith)))) refl
+digit_word k h = grind (arith, nat_tests)
 
 pub decimal_words : (n : ℕ) → n ≤ 999999 → all_words (decimal n) ≡ true
 decimal_words n h = decimal_by_steps (λ _ ds. all_words ds ≡ true) (λ k j. digit_word k j) (λ k ds j w. list_all-append word ds ((48 + k % 10) ∷ []) ∙ and_from _ _ w (digit_word (k % 10) (omega arith))) n (omega arith)
 
 pub spelt_words : (bs : List ℕ) → spelt bs ≡ true → all_words bs ≡ true
 spelt_words [] e = refl
-spelt_words (b ∷ bs) e = let (l, w) = and_parts (lower b) (all_words bs && leb (length bs) 11) e in and_from _ _ (or_left (lower b) (digit b) l) (and_parts (all_words bs) _ w).0
+spelt_words (b ∷ bs) e = grind (arith, nat_tests)
 
 -- a name begins with a lower-case letter
 not_name : (bs r q : List ℕ) (b : ℕ) → spelt bs ≡ true → b < 97 → b ∷ q ≡ bs ++ r → ⊥
-not_name [] r q b h k e = both_ways false refl h
+not_name [] r q b h k e = cc
 not_name (c ∷ bs) r q b h k e =
-    let j : b ≡ c = head_of e in
-    omega (arith, leb-true 97 c (and_parts (leb 97 c) _ (and_parts (lower c) _ h).0).0)
+    let j : b ≡ c = cc in
+    grind (arith, nat_tests)
 
 ended_arguments : (sig : Sig) (ts : Terms) (r : List ℕ) → Ended r → Ended (arguments_text sig ts ++ r)
 ended_arguments sig nil r h = h

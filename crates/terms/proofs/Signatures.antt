@@ -4,8 +4,9 @@ use Rattle.std.specs.Str.{bytes_eq}
 use Rattle.std.proofs.lemmas.Slice.Eq.{bytes_eq-Decides}
 use Rattle.std.proofs.lemmas.List.{get_or_append_left, get_or_push, get_or-set_same, get_or-set_other, length_push, length-set}
 use Rattle.std.proofs.lemmas.List.Elements.{All-push, All-set, All-from_get_or}
-use Rattle.std.proofs.lemmas.Bool.{cond-true, cond-false, cases_Bool, cases_eq, cases_lt, leb-true, and_parts}
-use Rattle.terms.specs.Signature.{Op, Sig, nameless, op_of, lower, all_words, spelt, Spelt, Apart, Ranked, Declared, found_from, found}
+use Rattle.std.proofs.lemmas.Bool.Decides.{nat_tests}
+use Rattle.std.proofs.lemmas.Bool.{cond-true, cond-false, cases_Bool, cases_eq, cases_lt}
+use Rattle.terms.specs.Signature.{Op, Sig, nameless, op_of, spelt, Spelt, Apart, Ranked, Declared, found_from, found}
 
 -- what is not found is no operator's name
 
@@ -74,4 +75,4 @@ declared_again sig f n h l d = record { are_spelt = spelt_again sig f n h d.are_
 -- a name has at most 12 bytes
 pub spelt_short : (bs : List ℕ) → spelt bs ≡ true → length bs ≤ 12
 spelt_short [] e = omega arith
-spelt_short (b ∷ bs) e = omega (arith, leb-true (length bs) 11 (and_parts (all_words bs) _ (and_parts (lower b) _ e).1).1)
+spelt_short (b ∷ bs) e = grind (arith, nat_tests)
