@@ -38,10 +38,8 @@ impl Signature {
         ensures value { result.now ≡ (op_of (sig_of self.now) operator).name }
         ensures short { length result.now ≤ 12 }
     {
-        match self.operator(operator) {
-            Some(declared) => declared.name(),
-            None => &[],
-        }
+        self.operator(operator)
+            .map_or(&[], |declared| declared.name())
     }
 
     // How many arguments an operator takes, 0 where it is not declared.
@@ -49,10 +47,8 @@ impl Signature {
         ensures value { result ≡ (op_of (sig_of self.now) operator).arity }
         ensures few { result ≤ 3 }
     {
-        match self.operator(operator) {
-            Some(declared) => declared.arity(),
-            None => 0,
-        }
+        self.operator(operator)
+            .map_or(0, |declared| declared.arity())
     }
 
     // The operator of a name.

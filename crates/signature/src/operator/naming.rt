@@ -1,5 +1,5 @@
 ghost use Rattle.std.specs.Prelude.{◌≡◌, ◌≤◌, [], length};
-ghost use Rattle.terms.specs.Signature.{lower, word, all_words, spelt};
+ghost use Rattle.terms.specs.Signature.{all_words, spelt};
 ghost use Rattle.signature.specs.Operators.{bytes_of, op_from};
 
 use super::{Name, Operator};
@@ -25,16 +25,11 @@ impl Name {
     }
 }
 
-fn is_word(b: u8) -> bool
-    ensures { result ≡ word b }
-{
-    b.is_ascii_lowercase() || b.is_ascii_digit()
-}
-
 fn are_words(part: &[u8]) -> bool
     ensures { result ≡ all_words part.now }
 {
-    part.iter().all(|b| is_word(*b))
+    part.iter()
+        .all(|b| b.is_ascii_lowercase() || b.is_ascii_digit())
 }
 
 // Whether a part is spelt as a name.
