@@ -1,6 +1,6 @@
--- The tokens behind a name, and behind each mark of arguments.
-use Rattle.std.proofs.Common.{◌≡◌, ℕ, zero, suc, ◌<◌, [], ◌∷◌, ◌++◌, length, None, Option, sym, ap, ◌∙◌, append_assoc}
-use Rattle.terms.specs.Term.{Term, apply, Terms, nil}
+-- The tokens behind a name, and behind each mark of arguments; and when they show a wrong count.
+use Rattle.std.proofs.Common.{◌≡◌, ℕ, zero, suc, ◌<◌, [], ◌∷◌, ◌++◌, length, None, Option, sym, ap, ◌∙◌, append_assoc, ◌+◌, Some, refl, arith}
+use Rattle.terms.specs.Term.{Term, apply, Terms, nil, how_many}
 use Rattle.terms.specs.Signature.{Sig, op_of, Declared}
 use Rattle.terms.specs.Ticket.{TermOf}
 use Rattle.terms.specs.Text.{text_of}
@@ -8,8 +8,8 @@ use Rattle.reading.specs.declared.token.At.{At}
 use Rattle.reading.specs.declared.token.Mark.TheVariants.{Opening, Closing, Comma}
 use Rattle.reading.specs.Tokens.{a_mark, tokens}
 use Rattle.reading.specs.Reading.{Context, within, wants, opens, has, and_then}
-use Rattle.reading.specs.Laws.{arguments_so_far}
-use Rattle.reading.proofs.States.{name_of, stack_tokens, state_tokens, arguments_then, awaiting_then, closing_then}
+use Rattle.reading.specs.Laws.{arguments_so_far, ShowsCount, closing_for_comma, comma_for_closing}
+use Rattle.reading.proofs.States.{name_of, stack_tokens, state_tokens, arguments_then, awaiting_then, closing_then, awaiting, many_then}
 use Rattle.reading.proofs.Lexing.{tokens_term}
 
 module _ {sig : Sig} (good : Declared sig) where
@@ -31,3 +31,14 @@ module _ {sig : Sig} (good : Declared sig) where
   tokens_continued f a ts t m n k =
       ap (λ l. stack_tokens sig k ++ (name_of sig f ∷ l)) (awaiting_then sig ts t)
       ∙ ap (λ l. stack_tokens sig k ++ (name_of sig f ∷ (l ++ (a_mark Comma ∷ [])))) (arguments_then sig ts t) ∙ simp append_assoc
+
+-- an operator and its arguments so far
+pub tokens_arguments : (sig : Sig) (f : ℕ) (a : At) (ts : Terms) (t : Term) (m : Option At) (n : ℕ) (k : Context)
+    → state_tokens sig (has t m (within f a ts n k)) ≡ stack_tokens sig k ++ (name_of sig f ∷ arguments_so_far sig (and_then ts t))
+tokens_arguments sig f a ts t m n k = append_assoc (stack_tokens sig k) (name_of sig f ∷ awaiting sig ts) _ ∙ ap (λ l. stack_tokens sig k ++ (name_of sig f ∷ l)) (sym (arguments_then sig ts t))
+
+pub shows_closing : (arity : ℕ) (ts : Terms) (t : Term) (n : ℕ) → how_many ts + suc (suc n) ≡ arity → ShowsCount arity (and_then ts t) (Some (a_mark Closing))
+shows_closing arity ts t n e = closing_for_comma (omega (arith, many_then ts t)) (omega (arith, many_then ts t)) refl
+
+pub shows_comma : (arity : ℕ) (ts : Terms) (t : Term) → how_many ts + 1 ≡ arity → ShowsCount arity (and_then ts t) (Some (a_mark Comma))
+shows_comma arity ts t e = comma_for_closing (omega (arith, many_then ts t)) (omega (arith, many_then ts t)) refl

@@ -11,7 +11,7 @@ use Rattle.reading.specs.declared.fault.TextFault.{TextFault}
 use Rattle.reading.specs.Tokens.{Tok, a_name, a_number, an_instrument, a_variable, a_mark, a_stray, tokens, past, origin}
 use Rattle.reading.specs.Reading.{Context, top, within, State, wants, opens, has, and_then, named, step}
 use Rattle.reading.specs.Laws.{Wrong, ShowsCount, needless_opening, missing_opening, comma_for_closing, closing_for_comma, Miscounted, arguments_so_far}
-use Rattle.reading.proofs.Lexing.{tokens_term}
+use Rattle.reading.proofs.Growing.{name_alone, tokens_arguments, shows_closing, shows_comma}
 use Rattle.reading.proofs.Equal.{not_both, same_ok}
 use Rattle.reading.proofs.Running.{reach, passed, reach_split, reach_first}
 use Rattle.reading.proofs.Back.{ComesTo, name_step, leads_arguments}
@@ -111,16 +111,16 @@ module _ {sig : Sig} (good : Declared sig) where
 
   miscounted_within : (t : Term) (m : Option At) (f : ℕ) (a : At) (ts : Terms) (n : ℕ) (k : Context) (w : Wrong) → Frame sig f a ts n (stack_tokens sig k) → Ticket sig t → ShowsCount (op_of sig f).arity (and_then ts t) w → Miscounted sig (state_tokens sig (has t m (within f a ts n k))) w a
   miscounted_within t m f a ts n k w g h c =
-      record { earlier = stack_tokens sig k; operator = f; so_far = and_then ts t; declared = g.declared; tickets = tickets_then sig ts t g.tickets h; stands = append_assoc (stack_tokens sig k) (name_of sig f ∷ awaiting sig ts) _ ∙ ap (λ l. stack_tokens sig k ++ (name_of sig f ∷ l)) (sym (arguments_then sig ts t)); shows = c; its_place = g.placed }
+      record { earlier = stack_tokens sig k; operator = f; so_far = and_then ts t; declared = g.declared; tickets = tickets_then sig ts t g.terms h; stands = tokens_arguments sig f a ts t m n k; shows = c; its_place = g.placed }
 
   pub miscounted_opening : (t : Term) (a : At) (k : Context) → Good sig (has t (Some a) k) → Miscounted sig (state_tokens sig (has t (Some a) k)) (Some (a_mark Opening)) a
   miscounted_opening t a k g =
       let (f, e, p) = g.2 in
       let h : Ticket sig (apply f nil) = subst (Ticket sig) e g.0 in
-      record { earlier = stack_tokens sig k; operator = f; so_far = nil; declared = h.0; tickets = tt; stands = ap (λ x. stack_tokens sig k ++ tokens (text_of sig x)) e ∙ ap (λ l. stack_tokens sig k ++ l) (tokens_term good (apply f nil) h); shows = needless_opening refl (sym h.1) refl; its_place = p }
+      record { earlier = stack_tokens sig k; operator = f; so_far = nil; declared = h.0; tickets = tt; stands = ap (λ x. stack_tokens sig k ++ tokens (text_of sig x)) e ∙ ap (λ l. stack_tokens sig k ++ l) (name_alone good f h.0 h.1); shows = needless_opening refl (sym h.1) refl; its_place = p }
 
   pub miscounted_closing : (t : Term) (m : Option At) (f : ℕ) (a : At) (ts : Terms) (n : ℕ) (k : Context) → Good sig (has t m (within f a ts (suc n) k)) → Miscounted sig (state_tokens sig (has t m (within f a ts (suc n) k))) (Some (a_mark Closing)) a
-  miscounted_closing t m f a ts n k g = miscounted_within t m f a ts (suc n) k _ g.1.0 g.0 (closing_for_comma (omega (arith, many_then ts t)) (omega (arith, many_then ts t, g.1.0.counted)) refl)
+  miscounted_closing t m f a ts n k g = miscounted_within t m f a ts (suc n) k _ g.1.0 g.0 (shows_closing (op_of sig f).arity ts t n g.1.0.counted)
 
   pub miscounted_comma : (t : Term) (m : Option At) (f : ℕ) (a : At) (ts : Terms) (k : Context) → Good sig (has t m (within f a ts zero k)) → Miscounted sig (state_tokens sig (has t m (within f a ts zero k))) (Some (a_mark Comma)) a
-  miscounted_comma t m f a ts k g = miscounted_within t m f a ts zero k _ g.1.0 g.0 (comma_for_closing (omega (arith, many_then ts t)) (omega (arith, many_then ts t, g.1.0.counted)) refl)
+  miscounted_comma t m f a ts k g = miscounted_within t m f a ts zero k _ g.1.0 g.0 (shows_comma (op_of sig f).arity ts t g.1.0.counted)

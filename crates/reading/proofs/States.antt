@@ -58,29 +58,42 @@ tickets_then sig (cons u ts) t a b = (a.0, tickets_then sig ts t a.1 b)
 
 -- a state that is reached
 
--- an operator behind some tokens: the arguments read, and how many follow the next one
-pub record Frame (sig : Sig) (f : ℕ) (a : At) (ts : Terms) (n : ℕ) (ks : List Tok) : Type 0 where
+-- an operator at its place: the arguments read, and how many follow the next one
+pub record FrameOf (Rows : Terms → Type 0) (Place : At → Type 0) (sig : Sig) (f : ℕ) (a : At) (ts : Terms) (n : ℕ) : Type 0 where
   pub declared : f < length sig
   pub counted : how_many ts + suc n ≡ (op_of sig f).arity
-  pub tickets : Tickets sig ts
-  pub placed : Behind ks a
+  pub terms : Rows ts
+  pub placed : Place a
 
-abbrev pub ContextGood : Sig → Context → Type 0
-ContextGood sig top = Unit {0}
-ContextGood sig (within f a ts n k) = Frame sig f a ts n (stack_tokens sig k) × ContextGood sig k
+pub frame_next : {Rows : Terms → Type 0} {Place : At → Type 0} {sig : Sig} {f : ℕ} {a : At} {ts : Terms} {n : ℕ} (t : Term) → FrameOf Rows Place sig f a ts (suc n) → Rows (and_then ts t) → FrameOf Rows Place sig f a (and_then ts t) n
+frame_next {Rows} {Place} {sig} {f} {a} {ts} {n} t g h = record { declared = g.declared; counted = omega (arith, many_then ts t, g.counted); terms = h; placed = g.placed }
+
+pub frame_full : {Rows : Terms → Type 0} {Place : At → Type 0} {sig : Sig} {f : ℕ} {a : At} {ts : Terms} (t : Term) → FrameOf Rows Place sig f a ts 0 → Rows (and_then ts t) → (f < length sig) × (how_many (and_then ts t) ≡ (op_of sig f).arity) × Rows (and_then ts t)
+frame_full {Rows} {Place} {sig} {f} {a} {ts} t g h = (g.declared, omega (arith, many_then ts t, g.counted), h)
 
 -- the place of an operator without arguments
-abbrev pub Placed : List Tok → Term → Option At → Type 0
-Placed ks t None = Unit {0}
-Placed ks t (Some a) = (f : ℕ) × (t ≡ apply f nil) × Behind ks a
+abbrev pub PlacedOf : (At → Type 0) → Term → Option At → Type 0
+PlacedOf Place t None = Unit {0}
+PlacedOf Place t (Some a) = (f : ℕ) × (t ≡ apply f nil) × Place a
+
+-- terms and rows of them are such ones, and places are behind the tokens before them
+module _ (One : Term → Type 0) (Rows : Terms → Type 0) (Place : List Tok → At → Type 0) (sig : Sig) (before : List Tok) where
+  abbrev pub ContextOf : Context → Type 0
+  ContextOf top = Unit {0}
+  ContextOf (within f a ts n k) = FrameOf Rows (Place (before ++ stack_tokens sig k)) sig f a ts n × ContextOf k
+
+  abbrev pub StateOf : State → Type 0
+  StateOf (wants k) = ContextOf k
+  StateOf (opens f a n k) = FrameOf Rows (Place (before ++ stack_tokens sig k)) sig f a nil n × ContextOf k
+  StateOf (has t m k) = One t × ContextOf k × PlacedOf (Place (before ++ stack_tokens sig k)) t m
+
+-- of a ticket
+
+abbrev pub Frame : Sig → ℕ → At → Terms → ℕ → List Tok → Type 0
+Frame sig f a ts n ks = FrameOf (Tickets sig) (Behind ks) sig f a ts n
+
+abbrev pub ContextGood : Sig → Context → Type 0
+ContextGood sig = ContextOf (Ticket sig) (Tickets sig) Behind sig []
 
 abbrev pub Good : Sig → State → Type 0
-Good sig (wants k) = ContextGood sig k
-Good sig (opens f a n k) = Frame sig f a nil n (stack_tokens sig k) × ContextGood sig k
-Good sig (has t m k) = Ticket sig t × ContextGood sig k × Placed (stack_tokens sig k) t m
-
-pub frame_next : {sig : Sig} {f : ℕ} {a : At} {ts : Terms} {n : ℕ} {ks : List Tok} (t : Term) → Frame sig f a ts (suc n) ks → Ticket sig t → Frame sig f a (and_then ts t) n ks
-frame_next {sig} {f} {a} {ts} {n} {ks} t g h = record { declared = g.declared; counted = omega (arith, many_then ts t, g.counted); tickets = tickets_then sig ts t g.tickets h; placed = g.placed }
-
-pub frame_full : {sig : Sig} {f : ℕ} {a : At} {ts : Terms} {ks : List Tok} (t : Term) → Frame sig f a ts 0 ks → Ticket sig t → Ticket sig (apply f (and_then ts t))
-frame_full {sig} {f} {a} {ts} {ks} t g h = (g.declared, omega (arith, many_then ts t, g.counted), tickets_then sig ts t g.tickets h)
+Good sig = StateOf (Ticket sig) (Tickets sig) Behind sig []

@@ -19,7 +19,7 @@ use Rattle.reading.proofs.Lexing.{tokens_term}
 use Rattle.reading.proofs.Growing.{name_alone, tokens_opened, tokens_closed, tokens_continued}
 use Rattle.terms.proofs.Readable.{ticket_term}
 use Rattle.reading.proofs.Running.{reach, passed, all_along}
-use Rattle.reading.proofs.States.{name_of, stack_tokens, state_tokens, ContextGood, Good, frame_next, frame_full}
+use Rattle.reading.proofs.States.{name_of, stack_tokens, state_tokens, ContextGood, Good, tickets_then, frame_next, frame_full}
 
 -- places
 
@@ -39,7 +39,7 @@ Keeps sig s k (Err f) = Unit {0}
 module _ {sig : Sig} (good : Declared sig) where
   named_keeps : (k : Context) (f n : ℕ) (at : At) → ContextGood sig k → Behind (stack_tokens sig k) at → f < length sig → n ≡ (op_of sig f).arity → Keeps sig (wants k) (name_of sig f) (Ok (named f n at k))
   named_keeps k f zero at g p h e = (((h, e, tt), g, (f, refl, p)), ap (λ l. stack_tokens sig k ++ l) (name_alone good f h e), refl)
-  named_keeps k f (suc n) at g p h e = ((record { declared = h; counted = omega arith; tickets = tt; placed = p }, g), refl, refl)
+  named_keeps k f (suc n) at g p h e = ((record { declared = h; counted = omega arith; terms = tt; placed = p }, g), refl, refl)
 
   name_keeps : (k : Context) (s : List ℕ) (at : At) (o : Option ℕ) → found sig s ≡ o → ContextGood sig k → Behind (stack_tokens sig k) at → Keeps sig (wants k) (a_name s) (with_name sig o at k)
   name_keeps k s at None e g p = tt
@@ -56,14 +56,14 @@ module _ {sig : Sig} (good : Declared sig) where
   closed_keeps : (t : Term) (m : Option At) (k : Context) (at : At) → Good sig (has t m k) → Keeps sig (has t m k) (a_mark Closing) (closed t k at)
   closed_keeps t m top at g = tt
   closed_keeps t m (within f a ts zero k) at g =
-      let h : Ticket sig (apply f (and_then ts t)) = frame_full t g.1.0 g.0 in
+      let h : Ticket sig (apply f (and_then ts t)) = frame_full t g.1.0 (tickets_then sig ts t g.1.0.terms g.0) in
       ((h, g.1.1, tt), tokens_closed good f a ts t m k (ticket_term sig (apply f (and_then ts t)) h), refl)
   closed_keeps t m (within f a ts (suc n) k) at g = tt
 
   continued_keeps : (t : Term) (m : Option At) (k : Context) (at : At) → Good sig (has t m k) → Keeps sig (has t m k) (a_mark Comma) (continued t k at)
   continued_keeps t m top at g = tt
   continued_keeps t m (within f a ts zero k) at g = tt
-  continued_keeps t m (within f a ts (suc n) k) at g = ((frame_next t g.1.0 g.0, g.1.1), tokens_continued good f a ts t m n k, refl)
+  continued_keeps t m (within f a ts (suc n) k) at g = ((frame_next t g.1.0 (tickets_then sig ts t g.1.0.terms g.0), g.1.1), tokens_continued good f a ts t m n k, refl)
 
   mark_opens : (m : Mark) (f : ℕ) (a : At) (n : ℕ) (k : Context) → Good sig (opens f a n k) → Keeps sig (opens f a n k) (a_mark m) (on_opens_mark m f a n k)
   mark_opens Opening f a n k g = (g, tokens_opened good f a n k, refl)

@@ -9,42 +9,25 @@ use Rattle.terms.specs.Substitution.{occurrences}
 use Rattle.reading.specs.declared.token.At.{At}
 use Rattle.reading.specs.Tokens.{Tok}
 use Rattle.reading.specs.Reading.{Context, top, within, State, wants, opens, has, and_then}
-use Rattle.reading.proofs.States.{stack_tokens, state_tokens, many_then}
+use Rattle.reading.proofs.States.{stack_tokens, state_tokens, many_then, FrameOf, ContextOf, StateOf}
 use Rattle.sheet_reading.specs.Sheet.{Limits}
 use Rattle.sheet_reading.specs.Sides.{Hand, on_left, on_right, depth}
 use Rattle.sheet_reading.specs.Laws.{count, symbol, the_variable, Behind}
 
--- an operator behind some tokens: the arguments read, and how many follow the next one
-pub record Frame (sig : Sig) (f : ℕ) (a : At) (ts : Terms) (n : ℕ) (ks : List Tok) : Type 0 where
-  pub declared : f < length sig
-  pub counted : how_many ts + suc n ≡ (op_of sig f).arity
-  pub terms : TermsOf sig ts
-  pub placed : Behind ks a
+-- of a side: operators are declared, over as many arguments as they take, and places are those of the tokens
 
--- the place of an operator without arguments
-abbrev pub Placed : List Tok → Term → Option At → Type 0
-Placed ks t None = Unit {0}
-Placed ks t (Some a) = (f : ℕ) × (t ≡ apply f nil) × Behind ks a
+abbrev pub Frame : Sig → ℕ → At → Terms → ℕ → List Tok → Type 0
+Frame sig f a ts n ks = FrameOf (TermsOf sig) (Behind ks) sig f a ts n
 
 abbrev pub ContextShaped : Sig → List Tok → Context → Type 0
-ContextShaped sig before top = Unit {0}
-ContextShaped sig before (within f a ts n k) = Frame sig f a ts n (before ++ stack_tokens sig k) × ContextShaped sig before k
+ContextShaped sig = ContextOf (TermOf sig) (TermsOf sig) Behind sig
 
--- operators are declared, over as many arguments as they take, and places are those of the tokens
 abbrev pub StateShaped : Sig → List Tok → State → Type 0
-StateShaped sig before (wants k) = ContextShaped sig before k
-StateShaped sig before (opens f a n k) = Frame sig f a nil n (before ++ stack_tokens sig k) × ContextShaped sig before k
-StateShaped sig before (has t b k) = TermOf sig t × ContextShaped sig before k × Placed (before ++ stack_tokens sig k) t b
+StateShaped sig = StateOf (TermOf sig) (TermsOf sig) Behind sig
 
 pub terms_then : (sig : Sig) (ts : Terms) (t : Term) → TermsOf sig ts → TermOf sig t → TermsOf sig (and_then ts t)
 terms_then sig nil t a b = (b, tt)
 terms_then sig (cons u ts) t a b = (a.0, terms_then sig ts t a.1 b)
-
-pub frame_next : {sig : Sig} {f : ℕ} {a : At} {ts : Terms} {n : ℕ} {ks : List Tok} (t : Term) → Frame sig f a ts (suc n) ks → TermOf sig t → Frame sig f a (and_then ts t) n ks
-frame_next {sig} {f} {a} {ts} {n} {ks} t g h = record { declared = g.declared; counted = omega (arith, many_then ts t, g.counted); terms = terms_then sig ts t g.terms h; placed = g.placed }
-
-pub frame_full : {sig : Sig} {f : ℕ} {a : At} {ts : Terms} {ks : List Tok} (t : Term) → Frame sig f a ts 0 ks → TermOf sig t → TermOf sig (apply f (and_then ts t))
-frame_full {sig} {f} {a} {ts} {ks} t g h = (g.declared, omega (arith, many_then ts t, g.counted), terms_then sig ts t g.terms h)
 
 -- no more than so many levels are read
 

@@ -7,12 +7,12 @@ use Rattle.reading.specs.declared.token.At.{At}
 use Rattle.reading.specs.declared.token.Mark.TheVariants.{Opening, Closing, Comma}
 use Rattle.reading.specs.Tokens.{Tok, an_instrument, a_mark}
 use Rattle.reading.specs.Reading.{Context, top, within, State, wants, opens, has, and_then, named}
-use Rattle.reading.proofs.States.{name_of, stack_tokens, state_tokens}
+use Rattle.reading.proofs.States.{name_of, stack_tokens, state_tokens, frame_next, frame_full}
 use Rattle.sheet_reading.specs.Sides.{Hand, on_left, on_right}
 use Rattle.sheet_reading.specs.Laws.{count, the_variable, Behind}
 use Rattle.reading.proofs.Lexing.{tokens_term}
 use Rattle.reading.proofs.Growing.{name_alone, tokens_opened, tokens_closed, tokens_continued}
-use Rattle.sheet_reading.proofs.SideStates.{StateShaped, frame_next, frame_full, MayStand, Fronted, Begun}
+use Rattle.sheet_reading.proofs.SideStates.{StateShaped, terms_then, MayStand, Fronted, Begun}
 use Rattle.sheet_reading.proofs.Counting.{count_then}
 
 -- where an operator stands in front, or no whole side is read
@@ -66,11 +66,11 @@ module _ {sig : Sig} (good : Declared sig) (before : List Tok) (d : Hand) where
   pub goes_closed : (t : Term) (b : Option At) (f : ℕ) (a : At) (ts : Terms) (k : Context) → Begun sig before d (has t b (within f a ts zero k)) → GoesOn (has t b (within f a ts zero k)) (a_mark Closing) (has (apply f (and_then ts t)) None k)
   goes_closed t b f a ts k g =
       let (h, j, q) = g.shaped in
-      let v : TermOf sig (apply f (and_then ts t)) = frame_full t j.0 h in
+      let v : TermOf sig (apply f (and_then ts t)) = frame_full t j.0 (terms_then sig ts t j.0.terms h) in
       goes_on (has t b (within f a ts zero k)) (has (apply f (and_then ts t)) None k) (a_mark Closing) g (tokens_closed good f a ts t b k v) (λ x. refl) (v, j.1, tt) (front_apply d f (and_then ts t) None k)
 
   pub goes_continued : (t : Term) (b : Option At) (f : ℕ) (a : At) (ts : Terms) (n : ℕ) (k : Context) → Begun sig before d (has t b (within f a ts (suc n) k)) → GoesOn (has t b (within f a ts (suc n) k)) (a_mark Comma) (wants (within f a (and_then ts t) n k))
   goes_continued t b f a ts n k g =
       let (h, j, q) = g.shaped in
       let w : Context = within f a (and_then ts t) n k in
-      goes_on (has t b (within f a ts (suc n) k)) (wants w) (a_mark Comma) g (tokens_continued good f a ts t b n k) (λ x. refl) (frame_next t j.0 h, j.1) (front_wants d w)
+      goes_on (has t b (within f a ts (suc n) k)) (wants w) (a_mark Comma) g (tokens_continued good f a ts t b n k) (λ x. refl) (frame_next t j.0 (terms_then sig ts t j.0.terms h), j.1) (front_wants d w)

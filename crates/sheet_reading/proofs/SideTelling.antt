@@ -18,7 +18,7 @@ use Rattle.reading.specs.Laws.{Wrong, ShowsCount, needless_opening, missing_open
 use Rattle.reading.proofs.Equal.{same_some}
 use Rattle.reading.proofs.Digits.{instrument_is}
 use Rattle.reading.proofs.Names.{found_is}
-use Rattle.reading.proofs.States.{name_of, awaiting, stack_tokens, state_tokens, arguments_then, many_then}
+use Rattle.reading.proofs.States.{name_of, awaiting, stack_tokens, state_tokens, arguments_then, many_then, PlacedOf}
 use Rattle.reading.specs.declared.fault.SheetFault.{SheetFault}
 use Rattle.reading.specs.declared.fault.SheetFault.TheVariants.{Headless}
 use Rattle.sheet_reading.specs.Sheet.{Limits}
@@ -28,9 +28,10 @@ use Rattle.sheet_reading.specs.Laws.{count, symbol, the_variable, Behind, Miscou
 use Rattle.reading.proofs.Tokens.{Lexed}
 use Rattle.reading.proofs.Lexing.{tokens_term}
 use Rattle.sheet_reading.proofs.SideFacts.{TextReason, SideReason}
-use Rattle.sheet_reading.proofs.SideStates.{Frame, Placed, ContextShaped, terms_then, StateLow, depth_low, levels_then, MayStand, Fronted, Good}
+use Rattle.sheet_reading.proofs.SideStates.{Frame, ContextShaped, terms_then, StateLow, depth_low, levels_then, MayStand, Fronted, Good}
 use Rattle.sheet_reading.proofs.SideSteps.{GoesOn, goes_named, goes_instrument, goes_opened, goes_closed, goes_continued}
 use Rattle.sheet_reading.proofs.Counting.{count_then, symbols_so_far, occurrences_so_far, open_so_far}
+use Rattle.reading.proofs.Growing.{name_alone, tokens_arguments, shows_closing, shows_comma}
 
 abbrev pub Tells : Sig → Limits → ℕ → List Tok → Hand → State → At → Tok → Result State SheetFault → Type 0
 Tells sig m rules before d s at k (Ok u) = Good sig m before d u × (state_tokens sig u ≡ state_tokens sig s ++ (k ∷ [])) × (lines k ≡ 0)
@@ -62,14 +63,12 @@ module _ {sig : Sig} (good : Declared sig) (before : List Tok) where
     so_far = and_then ts t;
     declared = g.declared;
     terms = terms_then sig ts t g.terms h;
-    stands =
-        ap (λ l. before ++ l) (append_assoc (stack_tokens sig k) (name_of sig f ∷ awaiting sig ts) _) ∙ sym (append_assoc before (stack_tokens sig k) _)
-        ∙ ap (λ l. (before ++ stack_tokens sig k) ++ (name_of sig f ∷ l)) (sym (arguments_then sig ts t));
+    stands = ap (λ l. before ++ l) (tokens_arguments sig f a ts t b n k) ∙ sym (append_assoc before (stack_tokens sig k) _);
     shows = c;
     its_place = g.placed;
   }
 
-  miscounted_opening : (t : Term) (a : At) (k : Context) → TermOf sig t → Placed (before ++ stack_tokens sig k) t (Some a) → Miscounted sig (before ++ state_tokens sig (has t (Some a) k)) (Some (a_mark Opening)) a
+  miscounted_opening : (t : Term) (a : At) (k : Context) → TermOf sig t → PlacedOf (Behind (before ++ stack_tokens sig k)) t (Some a) → Miscounted sig (before ++ state_tokens sig (has t (Some a) k)) (Some (a_mark Opening)) a
   miscounted_opening t a k h p =
       let (f, e, q) = p in
       let j : TermOf sig (apply f nil) = subst (TermOf sig) e h in
@@ -79,7 +78,7 @@ module _ {sig : Sig} (good : Declared sig) (before : List Tok) where
         so_far = nil;
         declared = j.0;
         terms = tt;
-        stands = ap (λ x. before ++ (stack_tokens sig k ++ tokens (text_of sig x))) e ∙ ap (λ l. before ++ (stack_tokens sig k ++ l)) (tokens_term good (apply f nil) j) ∙ sym (append_assoc before (stack_tokens sig k) _);
+        stands = ap (λ x. before ++ (stack_tokens sig k ++ tokens (text_of sig x))) e ∙ ap (λ l. before ++ (stack_tokens sig k ++ l)) (name_alone good f j.0 j.1) ∙ sym (append_assoc before (stack_tokens sig k) _);
         shows = needless_opening refl (sym j.1) refl;
         its_place = q;
       }
@@ -177,13 +176,13 @@ module _ {sig : Sig} (good : Declared sig) (before : List Tok) where
         (let low = levels_then m.levels (suc (depth k)) ts t g.low.1.0 g.low.0 in omega arith, g.low.1.1)
     tells_closed d t b (within f a ts (suc n) k) at g =
         let (h, j, q) = g.begun.shaped in
-        miscounted_within t b f a ts (suc n) k _ j.0 h (closing_for_comma (omega (arith, many_then ts t)) (omega (arith, many_then ts t, j.0.counted)) refl)
+        miscounted_within t b f a ts (suc n) k _ j.0 h (shows_closing (op_of sig f).arity ts t n j.0.counted)
 
     tells_continued : (d : Hand) (t : Term) (b : Option At) (k : Context) (at : At) → Good sig m before d (has t b k) → Tells sig m rules before d (has t b k) at (a_mark Comma) (in_text (continued t k at))
     tells_continued d t b top at g = refl
     tells_continued d t b (within f a ts zero k) at g =
         let (h, j, q) = g.begun.shaped in
-        miscounted_within t b f a ts zero k _ j.0 h (comma_for_closing (omega (arith, many_then ts t)) (omega (arith, many_then ts t, j.0.counted)) refl)
+        miscounted_within t b f a ts zero k _ j.0 h (shows_comma (op_of sig f).arity ts t j.0.counted)
     tells_continued d t b (within f a ts (suc n) k) at g =
         goes_good d (has t b (within f a ts (suc n) k)) (wants (within f a (and_then ts t) n k)) at (a_mark Comma) g (goes_continued good before d t b f a ts n k g.begun) refl (omega (arith, g.few))
         (levels_then m.levels (suc (depth k)) ts t g.low.1.0 g.low.0, g.low.1.1)
