@@ -1,12 +1,12 @@
 -- The tokens behind a name, and behind each mark of arguments; and when they show a wrong count.
-use Rattle.std.proofs.Common.{◌≡◌, ℕ, zero, suc, ◌<◌, [], ◌∷◌, ◌++◌, length, None, Option, sym, ap, ◌∙◌, append_assoc, ◌+◌, Some, refl, arith}
-use Rattle.terms.specs.Term.{Term, apply, Terms, nil, how_many}
+use Rattle.std.proofs.Common.{◌≡◌, ℕ, zero, suc, ◌<◌, [], ◌∷◌, ◌++◌, length, None, Option, sym, ap, ◌∙◌, append_assoc, ◌+◌, Some, refl, arith, ◌≤◌, decimal}
+use Rattle.terms.specs.Term.{Term, apply, Terms, nil, how_many, instrument}
 use Rattle.terms.specs.Signature.{Sig, op_of, Declared}
 use Rattle.terms.specs.Ticket.{TermOf}
 use Rattle.terms.specs.Text.{text_of}
 use Rattle.reading.specs.declared.token.At.{At}
 use Rattle.reading.specs.declared.token.Mark.TheVariants.{Opening, Closing, Comma}
-use Rattle.reading.specs.Tokens.{a_mark, tokens}
+use Rattle.reading.specs.Tokens.{a_mark, tokens, an_instrument}
 use Rattle.reading.specs.Reading.{Context, within, wants, opens, has, and_then}
 use Rattle.reading.specs.Laws.{arguments_so_far, ShowsCount, closing_for_comma, comma_for_closing}
 use Rattle.reading.proofs.States.{name_of, stack_tokens, state_tokens, arguments_then, awaiting_then, closing_then, awaiting, many_then}
@@ -15,6 +15,9 @@ use Rattle.reading.proofs.Lexing.{tokens_term}
 module _ {sig : Sig} (good : Declared sig) where
   pub name_alone : (f : ℕ) → f < length sig → 0 ≡ (op_of sig f).arity → tokens (text_of sig (apply f nil)) ≡ name_of sig f ∷ []
   name_alone f h e = tokens_term good (apply f nil) (h, e, tt)
+
+  pub tokens_number : (k : Context) (n : ℕ) → n ≤ 999999 → state_tokens sig (has (instrument n) None k) ≡ state_tokens sig (wants k) ++ (an_instrument (35 ∷ decimal n) ∷ [])
+  tokens_number k n h = ap (λ l. stack_tokens sig k ++ l) (tokens_term good (instrument n) h)
 
   pub tokens_opened : (f : ℕ) (a : At) (n : ℕ) (k : Context) → state_tokens sig (wants (within f a nil n k)) ≡ state_tokens sig (opens f a n k) ++ (a_mark Opening ∷ [])
   tokens_opened f a n k = sym (append_assoc (stack_tokens sig k) (name_of sig f ∷ []) (a_mark Opening ∷ []))

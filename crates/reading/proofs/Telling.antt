@@ -16,7 +16,7 @@ use Rattle.reading.proofs.Digits.{instrument_is}
 use Rattle.reading.proofs.Names.{found_is}
 use Rattle.reading.proofs.Tokens.{Lexed}
 use Rattle.reading.proofs.Lexing.{tokens_term}
-use Rattle.reading.proofs.Growing.{name_alone, tokens_opened, tokens_closed, tokens_continued}
+use Rattle.reading.proofs.Growing.{name_alone, tokens_number, tokens_opened, tokens_closed, tokens_continued}
 use Rattle.terms.proofs.Readable.{ticket_term}
 use Rattle.reading.proofs.Running.{reach, passed, all_along}
 use Rattle.reading.proofs.States.{name_of, stack_tokens, state_tokens, ContextGood, Good, tickets_then, frame_next, frame_full}
@@ -51,7 +51,7 @@ module _ {sig : Sig} (good : Declared sig) where
   number_keeps k s at None e l g = tt
   number_keeps k s at (Some n) e l g =
       let (q, h) = instrument_is s n l e in
-      ((h, g, tt), ap (λ x. stack_tokens sig k ++ x) (tokens_term good (instrument n) h ∙ ap (λ x. an_instrument x ∷ []) (sym q)), refl)
+      ((h, g, tt), tokens_number good k n h ∙ ap (λ x. stack_tokens sig k ++ (an_instrument x ∷ [])) (sym q), refl)
 
   closed_keeps : (t : Term) (m : Option At) (k : Context) (at : At) → Good sig (has t m k) → Keeps sig (has t m k) (a_mark Closing) (closed t k at)
   closed_keeps t m top at g = tt

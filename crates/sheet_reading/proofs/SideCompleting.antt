@@ -1,5 +1,5 @@
 -- The tokens read so far begin some side; and a whole side is one.
-use Rattle.std.proofs.Common.{◌≡◌, ℕ, zero, suc, ◌≤◌, List, [], ◌∷◌, ◌++◌, length, None, Option, sym, refl, ap, ◌∙◌, append_assoc, append-nil, arith}
+use Rattle.std.proofs.Common.{◌≡◌, ℕ, zero, suc, ◌≤◌, List, [], ◌∷◌, ◌++◌, length, None, Option, sym, refl, ap, ◌∙◌, append_assoc, append-nil, arith, subst}
 use Rattle.terms.specs.Term.{Term, instrument, apply, Terms, nil}
 use Rattle.terms.specs.Signature.{Sig, op_of, Declared}
 use Rattle.terms.specs.Text.{text_of}
@@ -14,6 +14,7 @@ use Rattle.sheet_reading.proofs.SideFacts.{HandShaped}
 use Rattle.sheet_reading.proofs.SideStates.{Fronted, Begun, Good}
 use Rattle.sheet_reading.proofs.Counting.{count_symbols, count_variable}
 use Rattle.sheet_reading.proofs.SideSteps.{front_within, GoesOn, goes_named, goes_instrument, goes_opened, goes_closed, goes_continued}
+use Rattle.reading.proofs.Completing.{Fillable, starts_has, starts_within, starts_opens}
 
 module _ {sig : Sig} (good : Declared sig) (before : List Tok) where
   -- a whole side
@@ -30,38 +31,26 @@ module _ {sig : Sig} (good : Declared sig) (before : List Tok) where
     abbrev Completes : List Tok → Type 0
     Completes ks = (t : Term) × HandShaped sig d t × ((rest : List Tok) × (tokens (text_of sig t) ≡ ks ++ rest))
 
-    -- where those of the next state do
-    back : (s u : State) (k : Tok) → GoesOn good before d s k u → Completes (state_tokens sig u) → Completes (state_tokens sig s)
-    back s u k h c =
-        let (t, p, more) = c in
-        let (rest, e) = more in
-        (t, p, (k ∷ rest, e ∙ ap (λ l. l ++ rest) h.1 ∙ append_assoc (state_tokens sig s) (k ∷ []) rest))
-
-    -- the next argument is #1
-    with_one : (k : Context) → Begun sig before d (wants k) → Fronted d (has (instrument 1) None k) → (Begun sig before d (has (instrument 1) None k) → Completes (state_tokens sig (has (instrument 1) None k))) → Completes (state_tokens sig (wants k))
-    with_one k g f rest = let h = goes_instrument good before d k 1 g (omega arith) f in back (wants k) (has (instrument 1) None k) _ h (rest h.0)
-
-    -- and so are those that are left
-    fill : (n f : ℕ) (a : At) (ts : Terms) (t : Term) (b : Option At) (k : Context) → Begun sig before d (has t b (within f a ts n k))
-        → ((u : Term) (j : Option At) → Begun sig before d (has u j k) → Completes (state_tokens sig (has u j k))) → Completes (state_tokens sig (has t b (within f a ts n k)))
-    fill zero f a ts t b k g rest =
-        let h = goes_closed good before d t b f a ts k g in
-        back (has t b (within f a ts zero k)) (has (apply f (and_then ts t)) None k) _ h (rest (apply f (and_then ts t)) None h.0)
-    fill (suc n) f a ts t b k g rest =
-        let w : Context = within f a (and_then ts t) n k in
-        let h = goes_continued good before d t b f a ts n k g in
-        back (has t b (within f a ts (suc n) k)) (wants w) _ h
-        (with_one w h.0 (front_within d (instrument 1) None f a (and_then ts t) n k) (λ j. fill n f a (and_then ts t) (instrument 1) None k j rest))
+    side_fillable : Fillable sig (Begun sig before d) Completes
+    side_fillable = record {
+      front = λ ks k c. (c.0, c.1, (k ∷ c.2.0, c.2.1 ∙ append_assoc ks (k ∷ []) c.2.0));
+      whole = λ t b g. (t, whole_side d t b g, ([], sym (append-nil (tokens (text_of sig t)))));
+      with_one = λ f a ts n k g. (goes_instrument good before d (within f a ts n k) 1 g (omega arith) (front_within d (instrument 1) None f a ts n k)).0;
+      opened = λ f a n k g. (goes_opened good before d f a n k g).0;
+      continued = λ t b f a ts n k g. (goes_continued good before d t b f a ts n k g).0;
+      closed = λ t b f a ts k g. (let h = (goes_closed good before d t b f a ts k g).0 in
+      (h, h.shaped.0));
+    }
 
     completes_has : (k : Context) (t : Term) (b : Option At) → Begun sig before d (has t b k) → Completes (state_tokens sig (has t b k))
-    completes_has top t b g = (t, whole_side d t b g, ([], sym (append-nil (tokens (text_of sig t)))))
-    completes_has (within f a ts n k) t b g = fill n f a ts t b k g (λ u j h. completes_has k u j h)
-
-    completes_within : (f : ℕ) (a : At) (ts : Terms) (n : ℕ) (k : Context) → Begun sig before d (wants (within f a ts n k)) → Completes (state_tokens sig (wants (within f a ts n k)))
-    completes_within f a ts n k g = with_one (within f a ts n k) g (front_within d (instrument 1) None f a ts n k) (completes_has (within f a ts n k) (instrument 1) None)
+    completes_has = starts_has good (Begun sig before d) Completes side_fillable
 
     completes_opens : (f : ℕ) (a : At) (n : ℕ) (k : Context) → Begun sig before d (opens f a n k) → Completes (state_tokens sig (opens f a n k))
-    completes_opens f a n k g = let h = goes_opened good before d f a n k g in back (opens f a n k) (wants (within f a nil n k)) _ h (completes_within f a nil n k h.0)
+    completes_opens = starts_opens good (Begun sig before d) Completes side_fillable
+
+    -- where those of the next state do
+    back : (s u : State) (k : Tok) → GoesOn good before d s k u → Completes (state_tokens sig u) → Completes (state_tokens sig s)
+    back s u k h c = side_fillable.front (state_tokens sig s) k (subst Completes h.1 c)
 
     completes_named : (f n : ℕ) (a : At) (k : Context) → Begun sig before d (named f n a k) → Completes (state_tokens sig (named f n a k))
     completes_named f zero a k g = completes_has k (apply f nil) _ g
@@ -74,10 +63,12 @@ module _ {sig : Sig} (good : Declared sig) (before : List Tok) where
       let n : ℕ = (op_of sig 0).arity in
       let h = goes_named good before on_left top 0 n at g refl some refl in
       back on_left (wants top) (named 0 n at top) (name_of sig 0) h (completes_named on_left 0 n at top h.0)
-  completes_top (on_right l) some g = with_one (on_right l) top g tt (completes_has (on_right l) top (instrument 1) None)
+  completes_top (on_right l) some g =
+      let h = goes_instrument good before (on_right l) top 1 g (omega arith) tt in
+      back (on_right l) (wants top) (has (instrument 1) None top) _ h (completes_has (on_right l) top (instrument 1) None h.0)
 
   pub completes : (d : Hand) (s : State) → 1 ≤ length sig → Begun sig before d s → Completes d (state_tokens sig s)
   completes d (wants top) some g = completes_top d some g
-  completes d (wants (within f a ts n k)) some g = completes_within d f a ts n k g
+  completes d (wants (within f a ts n k)) some g = starts_within good (Begun sig before d) (Completes d) (side_fillable d) f a ts n k g
   completes d (opens f a n k) some g = completes_opens d f a n k g
   completes d (has t b k) some g = completes_has d k t b g

@@ -11,7 +11,7 @@ use Rattle.reading.proofs.States.{name_of, stack_tokens, state_tokens, frame_nex
 use Rattle.sheet_reading.specs.Sides.{Hand, on_left, on_right}
 use Rattle.sheet_reading.specs.Laws.{count, the_variable, Behind}
 use Rattle.reading.proofs.Lexing.{tokens_term}
-use Rattle.reading.proofs.Growing.{name_alone, tokens_opened, tokens_closed, tokens_continued}
+use Rattle.reading.proofs.Growing.{name_alone, tokens_number, tokens_opened, tokens_closed, tokens_continued}
 use Rattle.sheet_reading.proofs.SideStates.{StateShaped, terms_then, MayStand, Fronted, Begun}
 use Rattle.sheet_reading.proofs.Counting.{count_then}
 
@@ -58,7 +58,7 @@ module _ {sig : Sig} (good : Declared sig) (before : List Tok) (d : Hand) where
       goes_on (wants k) (opens f at n k) (name_of sig f) g refl (λ x. refl) (record { declared = h; counted = omega arith; terms = tt; placed = p }, g.shaped) (front_opens d f at n k)
 
   pub goes_instrument : (k : Context) (n : ℕ) → Begun sig before d (wants k) → n ≤ 999999 → Fronted d (has (instrument n) None k) → GoesOn (wants k) (an_instrument (35 ∷ decimal n)) (has (instrument n) None k)
-  goes_instrument k n g h j = goes_on (wants k) (has (instrument n) None k) (an_instrument (35 ∷ decimal n)) g (ap (λ l. stack_tokens sig k ++ l) (tokens_term good (instrument n) h)) (λ x. refl) (h, g.shaped, tt) j
+  goes_instrument k n g h j = goes_on (wants k) (has (instrument n) None k) (an_instrument (35 ∷ decimal n)) g (tokens_number good k n h) (λ x. refl) (h, g.shaped, tt) j
 
   pub goes_opened : (f : ℕ) (a : At) (n : ℕ) (k : Context) → Begun sig before d (opens f a n k) → GoesOn (opens f a n k) (a_mark Opening) (wants (within f a nil n k))
   goes_opened f a n k g = goes_on (opens f a n k) (wants (within f a nil n k)) (a_mark Opening) g (tokens_opened good f a n k) (λ x. refl) g.shaped (front_wants d (within f a nil n k))
