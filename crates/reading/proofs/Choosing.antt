@@ -9,7 +9,8 @@ use Rattle.reading.specs.Tokens.{Tok, a_name, a_number, an_instrument, a_variabl
 use Rattle.reading.specs.Numbers.{plain, instrument_number}
 use Rattle.reading.specs.Reading.{unless_some, fault_of}
 use Rattle.reading.specs.Laws.{Wrong, Behind, IllNumbered, Applies, Miscounted, rank}
-use Rattle.reading.proofs.Equal.{no_some, same_some}
+use Rattle.reading.proofs.Equal.{same_some}
+use Rattle.std.proofs.lemmas.Option.{none-some}
 
 -- the fault applies, and none that applies goes before it
 abbrev pub Chosen : Sig → List Tok → Wrong → TextFault → Type 0
@@ -49,11 +50,11 @@ module _ {sig : Sig} (ks : List Tok) (w : Wrong) where
 
 -- at the end of the text no token has a fault of its own
 no_ill : IllNumbered None → ⊥
-no_ill (inl i) = no_some i.1
-no_ill (inr i) = no_some i.1
+no_ill (inl i) = none-some _ i.1
+no_ill (inr i) = none-some _ i.1
 
 pub end_first : {sig : Sig} (ks : List Tok) (f : TextFault) → Late sig ks None f → Chosen sig ks None f
-end_first ks f z = first_late ks None f (λ b e. no_some e) no_ill z
+end_first ks f z = first_late ks None f (λ b e. none-some _ e) no_ill z
 
 -- which tokens may have a fault of their own
 abbrev sort : Tok → ℕ
@@ -77,7 +78,7 @@ number_ill s p (inr i) = omega (arith, ap sort (same_some i.1))
 
 instrument_ill : (s : List ℕ) (n : ℕ) → instrument_number s ≡ Some n → IllNumbered (Some (an_instrument s)) → ⊥
 instrument_ill s n p (inl i) = omega (arith, ap sort (same_some i.1))
-instrument_ill s n p (inr i) = let e = i.1 in let q : i.0 ≡ s = cc in no_some (sym i.2 ∙ ap instrument_number q ∙ p)
+instrument_ill s n p (inr i) = let e = i.1 in let q : i.0 ≡ s = cc in none-some _ (sym i.2 ∙ ap instrument_number q ∙ p)
 
 -- a token's own fault goes before the one that is due
 module _ {sig : Sig} (ks : List Tok) (at : At) (p : Behind ks at) (f : TextFault) where

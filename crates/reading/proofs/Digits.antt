@@ -5,7 +5,7 @@ use Rattle.std.proofs.lemmas.Fmt.{digits_decimal, digits_value-decimal, decimal-
 use Rattle.std.proofs.lemmas.Bool.{false≢true, ne_eqb, eqb-false, not-true, le-leb, leb-true, cond-true, cond-false, cond_both, cases_Bool, eqb-true}
 use Rattle.reading.specs.Numbers.{plain, value_after, up_to, numbered, instrument_number}
 use Rattle.reading.specs.Laws.{AllDigits, DecimalNumbers}
-use Rattle.reading.proofs.Equal.{no_some}
+use Rattle.std.proofs.lemmas.Option.{none-some}
 
 own : IsNumeralModel AllDigits (value_after 0)
 own = numerals_by_fold _ (search rules) value_after (search rules)
@@ -55,10 +55,10 @@ numbers most ds n h a = ((λ e. subst (Written most ds) e (written most ds h a))
 
 -- an instrument's digits are the decimal of its number
 pub instrument_is : (s : List ℕ) (n : ℕ) → AllDigits (drop 1 s) → instrument_number s ≡ Some n → (s ≡ 35 ∷ decimal n) × (n ≤ 999999)
-instrument_is [] n a e = no_some e
+instrument_is [] n a e = absurd (none-some _ e)
 instrument_is (b ∷ ds) n a e = elim (cases_Bool (eqb b 35)) as (λ _. (b ∷ ds ≡ 35 ∷ decimal n) × (n ≤ 999999)) [
   | inl p ↦ (let (q, l) = (numbers 999999 ds n (omega arith) a).0 (sym (cond-true _ _ _ p) ∙ e) in
       let c = eqb-true b 35 p in
       (cc, l))
-  | inr p ↦ no_some (sym (cond-false (eqb b 35) (numbered 999999 ds) None p) ∙ e)
+  | inr p ↦ absurd (none-some _ (sym (cond-false (eqb b 35) (numbered 999999 ds) None p) ∙ e))
 ]

@@ -1,9 +1,6 @@
 -- What two equal options or results say.
 use Rattle.std.proofs.Common.{◌≡◌, ℕ, Some, None, Ok, Err, Result, arith}
 
-pub no_some : {A B : Type 0} {x : A} → None ≡ Some x → B
-no_some e = absurd (let z : ◌≡◌ {A = ℕ} 0 1 = cc in omega arith)
-
 pub same_some : {A : Type 0} {x y : A} → Some x ≡ Some y → x ≡ y
 same_some e = cc
 

@@ -9,12 +9,13 @@ use Rattle.reading.specs.declared.fault.TextFault.TheVariants.{Stray, BadNumber,
 use Rattle.reading.specs.Tokens.{Tok, a_name, origin}
 use Rattle.reading.specs.Reading.{top, State, wants, has, step, ending}
 use Rattle.reading.specs.Laws.{Begins, WholeTicket, Wrong, StuckAt, heads, kind, Allowed, NotAllowed, Miscounted, Behind, Applies, rank}
-use Rattle.reading.proofs.Equal.{no_some, not_both, same_ok}
+use Rattle.reading.proofs.Equal.{not_both, same_ok}
 use Rattle.reading.proofs.Running.{reach, passed, reach_split, reach_first, Refuses}
 use Rattle.reading.proofs.Back.{reads}
 use Rattle.reading.proofs.Taking.{takes, Fits, fits}
 use Rattle.reading.proofs.Miscounting.{miscount, miscounted_shows}
 use Rattle.reading.proofs.Choosing.{Late}
+use Rattle.std.proofs.lemmas.Option.{none-some}
 
 module _ {sig : Sig} (good : Declared sig) (ks : List Tok) (s : State) (reached : reach sig (wants top) origin ks ≡ Ok s) where
   -- a ticket that goes on with a token is read on
@@ -47,7 +48,7 @@ module _ {sig : Sig} (good : Declared sig) (ks : List Tok) (s : State) (reached 
   well_counted : (w : Wrong) (a : At) → miscount s w ≡ None → Miscounted sig ks w a → ⊥
   well_counted w a h c =
       let (b, e) = miscounted_shows good ks w a s c reached in
-      no_some (sym h ∙ e)
+      none-some _ (sym h ∙ e)
 
   pub late_unexpected : (w : Wrong) (at : At) → Behind ks at → NotAllowed sig ks w → miscount s w ≡ None → Late sig ks w (Unexpected at)
   late_unexpected w at p n h = record { due = (p, n); least = least }

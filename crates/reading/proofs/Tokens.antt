@@ -6,8 +6,9 @@ use Rattle.terms.specs.Signature.{lower, digit, word, all_words, spelt}
 use Rattle.reading.specs.declared.token.Mark.{Mark}
 use Rattle.reading.specs.declared.token.Mark.TheVariants.{Opening, Closing, Comma, Equals, Dash, Blank, LineEnd}
 use Rattle.reading.specs.Tokens.{Tok, a_name, a_number, an_instrument, a_variable, a_mark, a_stray, front, single, first_token, first_of_text, mark_byte, token_bytes, mark_lines, lines, tokens_from, tokens, whole}
-use Rattle.reading.proofs.Equal.{no_some, same_some}
+use Rattle.reading.proofs.Equal.{same_some}
 use Rattle.reading.specs.Laws.{first_of}
+use Rattle.std.proofs.lemmas.Option.{none-some}
 
 front_rest : (p : ℕ → Bool) (k : ℕ) (bs : List ℕ) → front p k bs ++ drop (length (front p k bs)) bs ≡ bs
 front_rest p zero bs = refl
@@ -155,5 +156,5 @@ tokens_step (b ∷ bs) k e =
 
 -- the first of some tokens is one of them
 pub first_lexed : (ks : List Tok) → AllByRecursion Lexed ks → (k : Tok) → first_of ks ≡ Some k → Lexed k
-first_lexed [] l k e = no_some e
+first_lexed [] l k e = absurd (none-some _ e)
 first_lexed (j ∷ ks) l k e = subst Lexed (same_some e) l.0

@@ -8,7 +8,7 @@ use Rattle.reading.specs.Tokens.{Tok, past, origin}
 use Rattle.reading.specs.Reading.{top, within, wants, opens, has, chain}
 use Rattle.reading.specs.Heading.{Head, Outcome, head_step}
 use Rattle.reading.specs.Laws.{Wrong}
-use Rattle.reading.proofs.Equal.{no_some, not_both, same_fault}
+use Rattle.reading.proofs.Equal.{not_both, same_fault}
 use Rattle.reading.proofs.Lines.{heading_tokens}
 use Rattle.reading.proofs.Running.{passed, all_along, Refuses}
 use Rattle.reading.specs.declared.fault.SheetFault.{SheetFault}
@@ -25,6 +25,7 @@ use Rattle.sheet_reading.proofs.Headings.{head_cause}
 use Rattle.sheet_reading.proofs.Goods.{Over, Ruled, Good, Said}
 use Rattle.sheet_reading.proofs.Valuing.{said_line, said_behind_value, said_behind_word}
 use Rattle.sheet_reading.proofs.Ruling.{said_rule}
+use Rattle.std.proofs.lemmas.Option.{none-some}
 
 good_headed : (g : Head) → HeadGood 32 g → Good (headed g)
 good_headed (sig, WantsName) h = h
@@ -74,7 +75,7 @@ rule_ended sig grid rules on_left (wants top) at f g p e = not_both e
 rule_ended sig grid rules on_left (wants (within h a ts n k)) at f g p e = subst (Cause sig _ None) (same_fault e) p
 rule_ended sig grid rules (on_right l) (wants k) at f g p e = subst (Cause sig _ None) (same_fault e) p
 rule_ended sig grid rules d (opens h a n k) at f g p e =
-    subst (Cause sig _ None) (same_fault e) (miscounted_opens g.shaped.declared (before_side sig grid rules d) h a n k None g.side.begun.shaped.0 no_some)
+    subst (Cause sig _ None) (same_fault e) (miscounted_opens g.shaped.declared (before_side sig grid rules d) h a n k None g.side.begun.shaped.0 (none-some _))
 rule_ended sig grid rules d (has t b k) at f g p e = subst (Cause sig _ None) (same_fault e) p
 
 pub ended : (s : Stand) (at : At) (f : SheetFault) → Good s → Behind (stand_tokens s) at → sheet_end s at ≡ Err f → (o : Sig) → Over s o → Cause o (stand_tokens s) None f
