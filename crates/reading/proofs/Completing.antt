@@ -82,7 +82,7 @@ module _ {sig : Sig} (good : Declared sig) where
     opened = λ f a n k g. next (opens f a n k) (a_mark Opening) (wants (within f a nil n k)) tt g refl;
     continued = λ t m f a ts n k g. next (has t m (within f a ts (suc n) k)) (a_mark Comma) (wants (within f a (and_then ts t) n k)) tt g refl;
     closed = λ t m f a ts k g. (let h = next (has t m (within f a ts zero k)) (a_mark Closing) (has (apply f (and_then ts t)) None k) tt g refl in
-    (h, ticket_term sig (apply f (and_then ts t)) h.0));
+        (h, ticket_term sig (apply f (and_then ts t)) h.0));
   }
 
   begins_has : (k : Context) (t : Term) (m : Option At) → Good sig (has t m k) → Begins sig (state_tokens sig (has t m k))

@@ -1,5 +1,5 @@
 -- What two equal options or results say.
-use Rattle.std.proofs.Common.{◌≡◌, ℕ, Some, None, Ok, Err, Result, arith}
+use Rattle.std.proofs.Common.{◌≡◌, ℕ, Some, Ok, Err, Result, arith}
 
 pub same_some : {A : Type 0} {x y : A} → Some x ≡ Some y → x ≡ y
 same_some e = cc

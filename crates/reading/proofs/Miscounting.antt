@@ -1,5 +1,5 @@
 -- When a token shows a wrong count of arguments.
-use Rattle.std.proofs.Common.{◌≡◌, ℕ, zero, suc, ◌-◌, ◌<◌, List, ◌∷◌, ◌++◌, length, Some, None, Ok, Option, Result, sym, refl, ap, ◌∙◌, subst, append_assoc, arith}
+use Rattle.std.proofs.Common.{◌≡◌, ℕ, zero, suc, ◌-◌, ◌<◌, List, ◌∷◌, ◌++◌, length, Some, None, Ok, Option, Result, sym, refl, ap, ◌∙◌, subst, arith}
 use Rattle.terms.specs.Term.{Term, apply, Terms, nil, cons, how_many}
 use Rattle.terms.specs.Signature.{Sig, op_of, Declared}
 use Rattle.terms.specs.Ticket.{Ticket, Tickets}
@@ -15,7 +15,7 @@ use Rattle.reading.proofs.Growing.{name_alone, tokens_arguments, shows_closing, 
 use Rattle.reading.proofs.Equal.{not_both, same_ok}
 use Rattle.reading.proofs.Running.{reach, passed, reach_split, reach_first}
 use Rattle.reading.proofs.Back.{ComesTo, name_step, leads_arguments}
-use Rattle.reading.proofs.States.{name_of, awaiting, stack_tokens, state_tokens, arguments_then, many_then, tickets_then, Frame, Good}
+use Rattle.reading.proofs.States.{name_of, stack_tokens, state_tokens, tickets_then, Frame, Good}
 
 -- the place of the inmost operator, if an argument is missing
 abbrev too_few : Context → Option At

@@ -1,7 +1,7 @@
 -- Each token that is accepted is one more of the tokens read.
 use Rattle.std.proofs.Common.{◌≡◌, ℕ, zero, suc, ◌+◌, ◌<◌, List, [], ◌∷◌, ◌++◌, length, Some, None, Ok, Err, Option, Result, sym, refl, ap, ◌∙◌, subst, arith, length-append}
 use Rattle.std.specs.List.{AllByRecursion}
-use Rattle.terms.specs.Term.{Term, instrument, apply}
+use Rattle.terms.specs.Term.{Term, apply}
 use Rattle.terms.specs.Signature.{Sig, op_of, found, Declared}
 use Rattle.terms.specs.Ticket.{Ticket}
 use Rattle.reading.specs.declared.token.At.{At}
@@ -15,7 +15,6 @@ use Rattle.reading.specs.Laws.{Behind}
 use Rattle.reading.proofs.Digits.{instrument_is}
 use Rattle.reading.proofs.Names.{found_is}
 use Rattle.reading.proofs.Tokens.{Lexed}
-use Rattle.reading.proofs.Lexing.{tokens_term}
 use Rattle.reading.proofs.Growing.{name_alone, tokens_number, tokens_opened, tokens_closed, tokens_continued}
 use Rattle.terms.proofs.Readable.{ticket_term}
 use Rattle.reading.proofs.Running.{reach, passed, all_along}

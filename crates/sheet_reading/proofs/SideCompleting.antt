@@ -1,17 +1,17 @@
 -- The tokens read so far begin some side; and a whole side is one.
-use Rattle.std.proofs.Common.{◌≡◌, ℕ, zero, suc, ◌≤◌, List, [], ◌∷◌, ◌++◌, length, None, Option, sym, refl, ap, ◌∙◌, append_assoc, append-nil, arith, subst}
-use Rattle.terms.specs.Term.{Term, instrument, apply, Terms, nil}
+use Rattle.std.proofs.Common.{◌≡◌, ℕ, zero, suc, ◌≤◌, List, [], ◌∷◌, ◌++◌, length, None, Option, sym, refl, ◌∙◌, append_assoc, append-nil, arith, subst}
+use Rattle.terms.specs.Term.{Term, instrument, apply, nil}
 use Rattle.terms.specs.Signature.{Sig, op_of, Declared}
 use Rattle.terms.specs.Text.{text_of}
 use Rattle.reading.specs.declared.token.At.{At}
 use Rattle.reading.specs.Tokens.{Tok, tokens, lines, whole}
-use Rattle.reading.specs.Reading.{Context, top, within, State, wants, opens, has, and_then, named}
+use Rattle.reading.specs.Reading.{Context, top, within, State, wants, opens, has, named}
 use Rattle.reading.proofs.States.{name_of, state_tokens}
 use Rattle.sheet_reading.specs.Sheet.{Limits, SideWithin}
 use Rattle.sheet_reading.specs.Sides.{Hand, on_left, on_right}
 use Rattle.sheet_reading.specs.Laws.{count}
 use Rattle.sheet_reading.proofs.SideFacts.{HandShaped}
-use Rattle.sheet_reading.proofs.SideStates.{Fronted, Begun, Good}
+use Rattle.sheet_reading.proofs.SideStates.{Begun, Good}
 use Rattle.sheet_reading.proofs.Counting.{count_symbols, count_variable}
 use Rattle.sheet_reading.proofs.SideSteps.{front_within, GoesOn, goes_named, goes_instrument, goes_opened, goes_closed, goes_continued}
 use Rattle.reading.proofs.Completing.{Fillable, starts_has, starts_within, starts_opens}
@@ -39,7 +39,7 @@ module _ {sig : Sig} (good : Declared sig) (before : List Tok) where
       opened = λ f a n k g. (goes_opened good before d f a n k g).0;
       continued = λ t b f a ts n k g. (goes_continued good before d t b f a ts n k g).0;
       closed = λ t b f a ts k g. (let h = (goes_closed good before d t b f a ts k g).0 in
-      (h, h.shaped.0));
+          (h, h.shaped.0));
     }
 
     completes_has : (k : Context) (t : Term) (b : Option At) → Begun sig before d (has t b k) → Completes (state_tokens sig (has t b k))

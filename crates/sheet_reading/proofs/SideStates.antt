@@ -1,15 +1,15 @@
 -- What holds of the states of a side.
-use Rattle.std.proofs.Common.{◌≡◌, ℕ, suc, ◌+◌, ◌<◌, ◌≤◌, max, List, ◌++◌, length, Some, None, Option, arith}
+use Rattle.std.proofs.Common.{ℕ, suc, ◌+◌, ◌≤◌, max, List, arith}
 use native.Mathlib.Nat.{le-max_left, le-max_right, max-le, add-max-add_right}
-use Rattle.terms.specs.Term.{Term, apply, Terms, nil, cons, how_many}
+use Rattle.terms.specs.Term.{Term, Terms, nil, cons}
 use Rattle.terms.specs.Rule.{levels, levels_in, OperatorFirst}
-use Rattle.terms.specs.Signature.{Sig, op_of}
+use Rattle.terms.specs.Signature.{Sig}
 use Rattle.terms.specs.Ticket.{TermOf, TermsOf}
 use Rattle.terms.specs.Substitution.{occurrences}
 use Rattle.reading.specs.declared.token.At.{At}
 use Rattle.reading.specs.Tokens.{Tok}
 use Rattle.reading.specs.Reading.{Context, top, within, State, wants, opens, has, and_then}
-use Rattle.reading.proofs.States.{stack_tokens, state_tokens, many_then, FrameOf, ContextOf, StateOf}
+use Rattle.reading.proofs.States.{state_tokens, FrameOf, ContextOf, StateOf}
 use Rattle.sheet_reading.specs.Sheet.{Limits}
 use Rattle.sheet_reading.specs.Sides.{Hand, on_left, on_right, depth}
 use Rattle.sheet_reading.specs.Laws.{count, symbol, the_variable, Behind}

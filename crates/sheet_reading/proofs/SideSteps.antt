@@ -10,7 +10,6 @@ use Rattle.reading.specs.Reading.{Context, top, within, State, wants, opens, has
 use Rattle.reading.proofs.States.{name_of, stack_tokens, state_tokens, frame_next, frame_full}
 use Rattle.sheet_reading.specs.Sides.{Hand, on_left, on_right}
 use Rattle.sheet_reading.specs.Laws.{count, the_variable, Behind}
-use Rattle.reading.proofs.Lexing.{tokens_term}
 use Rattle.reading.proofs.Growing.{name_alone, tokens_number, tokens_opened, tokens_closed, tokens_continued}
 use Rattle.sheet_reading.proofs.SideStates.{StateShaped, terms_then, MayStand, Fronted, Begun}
 use Rattle.sheet_reading.proofs.Counting.{count_then}

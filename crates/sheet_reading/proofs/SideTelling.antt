@@ -14,11 +14,11 @@ use Rattle.reading.specs.declared.fault.TextFault.TheVariants.{BadNumber}
 use Rattle.reading.specs.Tokens.{Tok, a_name, a_number, an_instrument, a_variable, a_mark, a_stray, tokens, lines}
 use Rattle.reading.specs.Numbers.{plain, instrument_number}
 use Rattle.reading.specs.Reading.{Context, top, within, State, wants, opens, has, and_then, unless_some, fault_of, named, with_name, with_number, needless, closed, continued, on_opens_mark, on_has_mark, chain}
-use Rattle.reading.specs.Laws.{Wrong, ShowsCount, needless_opening, missing_opening, comma_for_closing, closing_for_comma}
+use Rattle.reading.specs.Laws.{Wrong, ShowsCount, needless_opening, missing_opening}
 use Rattle.reading.proofs.Equal.{same_some}
 use Rattle.reading.proofs.Digits.{instrument_is}
 use Rattle.reading.proofs.Names.{found_is}
-use Rattle.reading.proofs.States.{name_of, awaiting, stack_tokens, state_tokens, arguments_then, many_then, PlacedOf}
+use Rattle.reading.proofs.States.{name_of, stack_tokens, state_tokens, PlacedOf}
 use Rattle.reading.specs.declared.fault.SheetFault.{SheetFault}
 use Rattle.reading.specs.declared.fault.SheetFault.TheVariants.{Headless}
 use Rattle.sheet_reading.specs.Sheet.{Limits}
