@@ -21,7 +21,7 @@ pub struct Full;
 
 impl<T: Copy, const N: usize> Copy for FixedVec<T, N> {}
 
-// By hand: the derives of a generic struct are not proved beside ghost fields.
+// By hand: over a type, a struct with ghost fields gets no derived Clone.
 impl<T: Copy, const N: usize> Clone for FixedVec<T, N> {
     ghost is_clone = { λ v w. w ≡ v };
 

@@ -1,4 +1,4 @@
-ghost use Rattle.std.specs.Prelude.{◌≡◌, ◌<◌, ◌≤◌, [], length, MatchOption};
+ghost use Rattle.std.specs.Prelude.{◌≡◌, ◌<◌, ◌≤◌, [], length, MatchOption, IfSome};
 ghost use Rattle.terms.specs.Signature.{op_of, found};
 ghost use Rattle.signature.specs.Operators.{op_from};
 ghost use Rattle.signature.specs.Declaring.{sig_of, Declares, Ranks};
@@ -55,11 +55,18 @@ impl Signature {
     pub fn find(&self, name: &[u8]) -> Option<u8>
         ensures { result ≡ found (sig_of self.now) name.now }
     {
-        let at = self
-            .operators
+        let place = self.place(name)?;
+        Some(place as u8)
+    }
+
+    // The place of the operator of a name.
+    fn place(&self, name: &[u8]) -> Option<usize>
+        ensures value { result ≡ found (sig_of self.now) name.now }
+        ensures within { IfSome result (λ place. place < 32) }
+    {
+        self.operators
             .iter()
-            .position(|operator| operator.name() == name)?;
-        Some(at as u8)
+            .position(|operator| operator.name() == name)
     }
 
     // Declares one operator more, without arguments as yet.

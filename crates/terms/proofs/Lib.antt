@@ -1,4 +1,3 @@
-pub mod Lists
 pub mod Nodes
 pub mod Signatures
 pub mod Readable

@@ -12,6 +12,7 @@ impl Name {
     {
         let mut bytes = FixedVec::new(0);
         for b in part {
+            // there is room: a name has 12 bytes at most
             let _ = bytes.push(*b);
         }
         Name { bytes }
