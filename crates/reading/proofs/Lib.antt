@@ -4,6 +4,7 @@ pub mod Names
 pub mod Tokens
 pub mod Lexing
 pub mod Running
+pub mod Faults
 pub mod Back
 pub mod States
 pub mod Growing

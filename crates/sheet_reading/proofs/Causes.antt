@@ -1,18 +1,17 @@
 -- Why a token, or the end, is refused: what a refusal says besides that no sheet goes on.
-use Rattle.std.proofs.Common.{◌≡◌, ℕ, ◌⊎◌, List, Some, None, Option, refl, inl, inr}
-use Rattle.std.proofs.lemmas.Bool.{cond_both}
+use Rattle.std.proofs.Common.{◌≡◌, ℕ, ◌⊎◌, List, Some, None, inl, inr, ap, ⊎_elim}
 use Rattle.terms.specs.Signature.{Sig, found}
 use Rattle.reading.specs.declared.token.At.{At}
 use Rattle.reading.specs.declared.fault.TextFault.{TextFault}
 use Rattle.reading.specs.declared.fault.TextFault.TheVariants.{Stray, BadNumber, Unexpected, Undeclared, WrongArity, PastLimit}
-use Rattle.reading.specs.Tokens.{Tok, a_name, a_number, an_instrument, a_variable, a_mark, a_stray}
-use Rattle.reading.specs.Numbers.{plain, instrument_number}
-use Rattle.reading.specs.Reading.{unless_some, fault_of}
+use Rattle.reading.specs.Tokens.{Tok, a_name, a_number, an_instrument, a_variable, a_stray}
+use Rattle.reading.specs.Reading.{fault_of}
 use Rattle.reading.specs.Laws.{Wrong}
 use Rattle.reading.specs.declared.fault.SheetFault.{SheetFault}
 use Rattle.reading.specs.declared.fault.SheetFault.TheVariants.{Text, Repeated, Headless, Doubled, Unbound}
 use Rattle.sheet_reading.specs.Laws.{Behind, symbol, WholeSheet, StuckAt, names_on, BeyondLimit, Miscounted, InLeft, NotInLeft, RefusedFor}
 use Rattle.sheet_reading.proofs.SideFacts.{OfLimit}
+use Rattle.reading.proofs.Faults.{own_fault}
 
 abbrev pub TextCause : Sig → List Tok → Wrong → TextFault → Type 0
 TextCause sig before w (Stray at) = Behind before at × ((b : ℕ) × (w ≡ Some (a_stray b)))
@@ -42,16 +41,6 @@ refused_for sig before w (Headless at) c h = (c.0, h (λ z. z), c.1)
 refused_for sig before w (Doubled at) c h = (c.0, h (λ z. z), c.1)
 refused_for sig before w (Unbound at) c h = (c.0, h (λ z. z), c.1)
 
-module _ (sig : Sig) (before : List Tok) (at : At) (p : Behind before at) where
-  own_instrument : (s : List ℕ) (o : Option ℕ) → TextCause sig before (Some (an_instrument s)) (unless_some o at (Unexpected at))
-  own_instrument s None = (p, (s, inr refl))
-  own_instrument s (Some n) = p
-
-  -- a token that is not allowed
-  pub not_here_cause : (k : Tok) → TextCause sig before (Some k) (fault_of k at (Unexpected at))
-  not_here_cause (a_name s) = p
-  not_here_cause (a_number s) = cond_both (plain s) (Unexpected at) (BadNumber at) (TextCause sig before (Some (a_number s))) (λ _. p) (λ _. (p, (s, inl refl)))
-  not_here_cause (an_instrument s) = own_instrument s (instrument_number s)
-  not_here_cause (a_variable x) = p
-  not_here_cause (a_mark m) = p
-  not_here_cause (a_stray b) = (p, (b, refl))
+-- a token that is not allowed
+pub not_here_cause : (sig : Sig) (before : List Tok) (at : At) → Behind before at → (k : Tok) → TextCause sig before (Some k) (fault_of k at (Unexpected at))
+not_here_cause sig before at p k = own_fault (TextCause sig before (Some k)) k at (Unexpected at) p (λ s e. (p, (s, ⊎_elim (λ q. inl (ap Some q)) (λ q. inr (ap Some q)) e))) (λ b e. (p, (b, ap Some e)))

@@ -10,10 +10,9 @@ use Rattle.reading.specs.declared.token.At.{At}
 use Rattle.reading.specs.declared.token.Mark.{Mark}
 use Rattle.reading.specs.declared.token.Mark.TheVariants.{Opening, Closing, Comma, Equals, Dash, Blank, LineEnd}
 use Rattle.reading.specs.declared.fault.TextFault.{TextFault}
-use Rattle.reading.specs.declared.fault.TextFault.TheVariants.{BadNumber}
 use Rattle.reading.specs.Tokens.{Tok, a_name, a_number, an_instrument, a_variable, a_mark, a_stray, tokens, lines}
-use Rattle.reading.specs.Numbers.{plain, instrument_number}
-use Rattle.reading.specs.Reading.{Context, top, within, State, wants, opens, has, and_then, unless_some, fault_of, named, with_name, with_number, needless, closed, continued, on_opens_mark, on_has_mark, chain}
+use Rattle.reading.specs.Numbers.{instrument_number}
+use Rattle.reading.specs.Reading.{Context, top, within, State, wants, opens, has, and_then, fault_of, named, with_name, with_number, needless, closed, continued, on_opens_mark, on_has_mark, chain}
 use Rattle.reading.specs.Laws.{Wrong, ShowsCount, needless_opening, missing_opening}
 use Rattle.reading.proofs.Equal.{same_some}
 use Rattle.reading.proofs.Digits.{instrument_is}
@@ -32,6 +31,7 @@ use Rattle.sheet_reading.proofs.SideStates.{Frame, ContextShaped, terms_then, St
 use Rattle.sheet_reading.proofs.SideSteps.{GoesOn, goes_named, goes_instrument, goes_opened, goes_closed, goes_continued}
 use Rattle.sheet_reading.proofs.Counting.{count_then, symbols_so_far, occurrences_so_far, open_so_far}
 use Rattle.reading.proofs.Growing.{name_alone, tokens_arguments, shows_closing, shows_comma}
+use Rattle.reading.proofs.Faults.{own_fault}
 
 abbrev pub Tells : Sig → Limits → ℕ → List Tok → Hand → State → At → Tok → Result State SheetFault → Type 0
 Tells sig m rules before d s at k (Ok u) = Good sig m before d u × (state_tokens sig u ≡ state_tokens sig s ++ (k ∷ [])) × (lines k ≡ 0)
@@ -215,31 +215,27 @@ module _ {sig : Sig} (good : Declared sig) (before : List Tok) where
     opens_mark d Blank at f a n k g = unopened d f a n k _ g refl
     opens_mark d LineEnd at f a n k g = unopened d f a n k _ g refl
 
-    -- what is wrong with a number by itself goes first
-
-    ill_number : (side : List Tok) (s : List ℕ) (at : At) (f : TextFault) → TextReason m sig rules before side at (a_number s) f → TextReason m sig rules before side at (a_number s) (fault_of (a_number s) at f)
-    ill_number side s at f h = cond_both (plain s) f (BadNumber at) (TextReason m sig rules before side at (a_number s)) (λ _. h) (λ _. (refl, (s, inl refl)))
-
-    ill_instrument : (side : List Tok) (s : List ℕ) (at : At) (f : TextFault) → TextReason m sig rules before side at (an_instrument s) f → TextReason m sig rules before side at (an_instrument s) (fault_of (an_instrument s) at f)
-    ill_instrument side s at f h = elim (instrument_number s) as (λ o. TextReason m sig rules before side at (an_instrument s) (unless_some o at f)) [ None ↦ (refl, (s, inr refl)) | Some n ↦ h ]
+    -- what is wrong with a token by itself goes first
+    ill : (side : List Tok) (k : Tok) (at : At) (f : TextFault) → TextReason m sig rules before side at k f → TextReason m sig rules before side at k (fault_of k at f)
+    ill side k at f h = own_fault (TextReason m sig rules before side at k) k at f h (λ s e. (refl, (s, e))) (λ b e. (refl, (b, e)))
 
     pub tells : (d : Hand) (s : State) (at : At) (k : Tok) → Lexed k → Good sig m before d s → Behind (before ++ state_tokens sig s) at → Tells sig m rules before d s at k (side_step m sig rules d s at k)
     tells d (wants k) at (a_name s) l g p = tells_name d k s at (found sig s) refl g p
-    tells d (wants k) at (a_number s) l g p = ill_number _ s at _ refl
+    tells d (wants k) at (a_number s) l g p = ill _ (a_number s) at _ refl
     tells d (wants k) at (an_instrument s) l g p = tells_number d k s at (instrument_number s) refl l g
     tells d (wants k) at (a_variable x) l g p =
         in_room d k at (a_variable x) _ g refl (λ r. in_front d k at (wants k) (λ q. Tells sig m rules before d (wants k) at (a_variable x) (chain q (λ _. variable_on d x k at))) (λ i j. (refl, i, j)) (on_variable d k x at l g r))
     tells d (wants k) at (a_mark j) l g p = refl
     tells d (wants k) at (a_stray b) l g p = (refl, (b, refl))
     tells d (opens f a n k) at (a_name s) l g p = unopened d f a n k _ g refl
-    tells d (opens f a n k) at (a_number s) l g p = ill_number _ s at _ (unopened d f a n k _ g refl)
-    tells d (opens f a n k) at (an_instrument s) l g p = ill_instrument _ s at _ (unopened d f a n k _ g refl)
+    tells d (opens f a n k) at (a_number s) l g p = ill _ (a_number s) at _ (unopened d f a n k _ g refl)
+    tells d (opens f a n k) at (an_instrument s) l g p = ill _ (an_instrument s) at _ (unopened d f a n k _ g refl)
     tells d (opens f a n k) at (a_variable x) l g p = unopened d f a n k _ g refl
     tells d (opens f a n k) at (a_mark j) l g p = opens_mark d j at f a n k g
     tells d (opens f a n k) at (a_stray b) l g p = (refl, (b, refl))
     tells d (has t b k) at (a_name s) l g p = refl
-    tells d (has t b k) at (a_number s) l g p = ill_number _ s at _ refl
-    tells d (has t b k) at (an_instrument s) l g p = ill_instrument _ s at _ refl
+    tells d (has t b k) at (a_number s) l g p = ill _ (a_number s) at _ refl
+    tells d (has t b k) at (an_instrument s) l g p = ill _ (an_instrument s) at _ refl
     tells d (has t b k) at (a_variable x) l g p = refl
     tells d (has t b k) at (a_mark j) l g p = has_mark d j at t b k g
     tells d (has t b k) at (a_stray c) l g p = (refl, (c, refl))
