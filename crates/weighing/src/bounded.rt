@@ -18,7 +18,8 @@ pub(crate) type Factor = Bounded<1, 4>;
 impl<const LEAST: u8, const MOST: u8> TryFrom<u8> for Bounded<LEAST, MOST> {
     type Error = Unweighable;
 
-    ghost try_from_gives = { λ value r. MatchResult r (λ x. x.value ≡ value) (λ e. (e ≡ OutOfRange) × ((LEAST ≤ value) × (value ≤ MOST) → ⊥)) };
+    ghost try_from_gives = { λ value r. MatchResult r (λ x. x.value ≡ value)
+        (λ e. (e ≡ OutOfRange) × ((LEAST ≤ value) × (value ≤ MOST) → ⊥)) };
 
     fn try_from(value: u8) -> Result<Self, Unweighable> {
         if (LEAST..=MOST).contains(&value) {

@@ -20,7 +20,7 @@ impl Side {
         Side { nodes: *nodes }
     }
 
-    // A side of one instrument.
+    // A side of one instrument, for the places that are not in use.
     #[tactic(auto, using(crate::proofs::Sides::laid_instrument))]
     pub(crate) fn blank() -> Side {
         let mut nodes = Layout::new();
