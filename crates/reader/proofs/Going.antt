@@ -1,83 +1,48 @@
--- The loop that reads a ticket.
-use Rattle.std.proofs.Common.{◌≡◌, ℕ, ◌+◌, ◌<◌, ◌≤◌, List, [], length, None, Ok, Err, Result, sym, ap, ◌∙◌, subst, arith, length-append}
-use Rattle.std.proofs.lemmas.Bool.{cond-true, cond-false, le-leb, lt-leb}
-use Rattle.terms.specs.declared.layout.Layout.{Layout}
-use Rattle.terms.specs.Term.{Term}
-use Rattle.terms.specs.Signature.{Sig, Declared}
-use Rattle.terms.specs.Layout.{in_use}
-use Rattle.terms.proofs.Laying.{length-laid, ticket_narrow, laid_stands}
+-- The loop that reads a text token by token.
+use Rattle.std.proofs.Common.{◌≡◌, ℕ, ◌+◌, ◌<◌, ◌≤◌, [], length, Ok, Err, Result, sym, ap, ◌∙◌, subst, arith, length-append}
 use Rattle.reading.specs.declared.token.At.{At}
-use Rattle.reading.specs.declared.fault.TextFault.{TextFault}
-use Rattle.reading.specs.declared.fault.TextFault.TheVariants.{PastLimit}
-use Rattle.reading.specs.Tokens.{Tok, token_bytes, tokens, origin, past}
-use Rattle.reading.specs.Reading.{State, wants, top, step, chain, ending, run, ticket_limit, read_ticket}
-use Rattle.reading.specs.Laws.{Explained}
-use Rattle.reading.proofs.Reading.{ticket_law}
+use Rattle.reading.specs.Tokens.{Tok, token_bytes, tokens, past}
+use Rattle.reading.specs.Reading.{chain, run_with}
 use Rattle.reader.specs.declared.token.Lexeme.{Lexeme}
 use Rattle.reader.specs.declared.token.Lexer.{Lexer}
-use Rattle.reader.specs.declared.parser.Parser.{Parser}
-use Rattle.reader.specs.Lexing.{meaning, what_is_left, now_at, ReadToken}
-use Rattle.reader.specs.Parsing.{Holds, Sparse, Stepped, Finished}
-use Rattle.reader.specs.Ticket.{Reads}
-use Rattle.reader.proofs.Sparse.{sparse_step}
-
--- the parser holds a state from which the rest of the text is read as the whole text is
-pub record Going (sig : Sig) (text : List ℕ) (l : Lexer) (p : Parser) : Type 0 where
-  pub state : State
-  pub holds : Holds p state
-  pub sparse : Sparse state l.place
-  pub within : l.place + length (what_is_left l) ≤ 4096
-  pub same : run sig state (now_at l) (tokens (what_is_left l)) ≡ run sig (wants top) origin (tokens text)
+use Rattle.reader.specs.Lexing.{meaning, what_is_left, ReadToken}
 
 -- a token leaves less of the text
 pub less_left : (l m : Lexer) (x : Lexeme) → ReadToken l x m → length (what_is_left m) < length (what_is_left l)
 less_left l m x r = omega (arith, r.some_bytes, ap length r.part, length-append (token_bytes (meaning x.token)) (what_is_left m))
 
-module _ (sig : Sig) (text : List ℕ) where
-  pub ready : (l : Lexer) (p : Parser) (x : Lexeme) (m : Lexer) → (g : Going sig text l p) → ReadToken l x m → Sparse g.state x.at.place × (x.at.place < 4096)
-  ready l p x m g r =
-      let here : x.at.place ≡ l.place = ap (λ (a : At). a.place) r.its_place in
-      (subst (Sparse g.state) (sym here) g.sparse, omega (arith, less_left l m x r, g.within))
+module _ {S A E : Type 0} (step : S → At → Tok → Result S E) (end : S → At → Result A E) where
+  -- a state stands at the lexer's place from which the rest of a text, of so many bytes at most, is read as the whole text is
+  pub record Going (limit : ℕ) (whole : Result A E) (stands : S → ℕ → Type 0) (l : Lexer) : Type 0 where
+    pub state : S
+    pub holds : stands state l.at.place
+    pub within : l.at.place + length (what_is_left l) ≤ limit
+    pub same : run_with step end state l.at (tokens (what_is_left l)) ≡ whole
 
-  -- one token on
-  pub going_on : (l : Lexer) (p : Parser) (x : Lexeme) (m : Lexer) (q : Parser) (g : Going sig text l p) → ReadToken l x m → Stepped (Ok tt) (step sig g.state x.at (meaning x.token)) q → Going sig text m q
-  going_on l p x m q g r (s, e, h) =
-      let k : Tok = meaning x.token in
-      let here : step sig g.state (now_at l) k ≡ Ok s = ap (λ a. step sig g.state a k) (sym r.its_place) ∙ e in
-      let place : m.place ≡ l.place + length (token_bytes k) = ap (λ (a : At). a.place) r.behind in
-      record {
-        state = s;
-        holds = h;
-        sparse = subst (Sparse s) (sym place) (sparse_step sig (now_at l) l.place (length (token_bytes k)) r.some_bytes k g.state s g.sparse here);
-        within = omega (arith, ap length r.part, length-append (token_bytes k) (what_is_left m), g.within);
-        same =
-            ap (λ a. run sig s a (tokens (what_is_left m))) r.behind
-            ∙ sym (ap (run sig g.state (now_at l)) r.first ∙ ap (λ o. chain o (λ s'. run sig s' (past (now_at l) k) (tokens (what_is_left m)))) here)
-            ∙ g.same;
-      }
+  module _ {limit : ℕ} {whole : Result A E} {stands : S → ℕ → Type 0} (l : Lexer) (x : Lexeme) (m : Lexer) (g : Going limit whole stands l) (r : ReadToken l x m) where
+    -- the token's place is the lexer's, and within the text
+    pub here : x.at.place ≡ l.at.place
+    here = ap (λ (a : At). a.place) r.its_place
 
-  -- the refused token
-  pub going_wrong : (l : Lexer) (p : Parser) (x : Lexeme) (m : Lexer) (f : TextFault) (g : Going sig text l p) → ReadToken l x m → step sig g.state x.at (meaning x.token) ≡ Err f → run sig (wants top) origin (tokens text) ≡ Err f
-  going_wrong l p x m f g r e =
-      let k : Tok = meaning x.token in
-      let here : step sig g.state (now_at l) k ≡ Err f = ap (λ a. step sig g.state a k) (sym r.its_place) ∙ e in
-      sym g.same ∙ ap (run sig g.state (now_at l)) r.first ∙ ap (λ o. chain o (λ s'. run sig s' (past (now_at l) k) (tokens (what_is_left m)))) here
+    pub in_reach : x.at.place < limit
+    in_reach = omega (arith, here, less_left l m x r, g.within)
+
+    then : chain (step g.state x.at (meaning x.token)) (λ u. run_with step end u m.at (tokens (what_is_left m))) ≡ whole
+    then = (λ i. chain (step g.state (r.its_place i) (meaning x.token)) (λ u. run_with step end u (r.behind i) (tokens (what_is_left m)))) ∙ sym (ap (run_with step end g.state l.at) r.first) ∙ g.same
+
+    -- one token on
+    pub going_on : {next : S → ℕ → Type 0} (u : S) → step g.state x.at (meaning x.token) ≡ Ok u → next u (past x.at (meaning x.token)).place → Going limit whole next m
+    going_on {next} u e h = record {
+      state = u;
+      holds = subst (λ (a : At). next u a.place) (sym (r.behind ∙ ap (λ a. past a (meaning x.token)) (sym r.its_place))) h;
+      within = omega (arith, ap length r.part, length-append (token_bytes (meaning x.token)) (what_is_left m), ap (λ (a : At). a.place) r.behind, g.within);
+      same = sym (ap (λ o. chain o (λ v. run_with step end v m.at (tokens (what_is_left m)))) e) ∙ then;
+    }
+
+    -- the refused token
+    pub going_wrong : (f : E) → step g.state x.at (meaning x.token) ≡ Err f → whole ≡ Err f
+    going_wrong f e = sym then ∙ ap (λ o. chain o (λ v. run_with step end v m.at (tokens (what_is_left m)))) e
 
   -- the end of the text
-  pub going_end : (l : Lexer) (p : Parser) (a : At) (g : Going sig text l p) → what_is_left l ≡ [] → a ≡ now_at l → run sig (wants top) origin (tokens text) ≡ ending g.state a
-  going_end l p a g e q = sym g.same ∙ ap (λ bs. run sig g.state (now_at l) (tokens bs)) e ∙ ap (ending g.state) (sym q)
-
-  pub short_text : length text ≤ 4096 → read_ticket sig text ≡ run sig (wants top) origin (tokens text)
-  unfolding read_ticket ticket_limit
-  short_text h = cond-true _ _ _ (le-leb (length text) 4096 h)
-
-  pub long_text : 4096 < length text → read_ticket sig text ≡ Err (PastLimit origin)
-  unfolding read_ticket ticket_limit
-  long_text h = cond-false _ _ _ (lt-leb (length text) 4096 h)
-
-  -- what is answered at the end is what the definition gives
-  pub answered : Declared sig → (o : Result Term TextFault) (r : Result (Layout 2048) TextFault) → read_ticket sig text ≡ o → Finished r o → Reads r o
-  answered d o (Ok l) e (t, g, laid) =
-      let told : Explained sig text (Ok t) = subst (Explained sig text) (e ∙ g) (ticket_law sig d text).explained in
-      record { ticket = t; given = g; in_order = laid; stands = laid_stands (in_use l) t (ticket_narrow sig d t told.0) laid; counted = ap length laid ∙ length-laid 0 None t }
-  answered d o (Err f) e h = h
+  pub going_end : {limit : ℕ} {whole : Result A E} {stands : S → ℕ → Type 0} (l : Lexer) (g : Going limit whole stands l) → what_is_left l ≡ [] → whole ≡ end g.state l.at
+  going_end l g e = sym g.same ∙ ap (λ bs. run_with step end g.state l.at (tokens bs)) e

@@ -1,7 +1,8 @@
 pub mod Runs
 pub mod Values
+pub mod Headings
 pub mod Stacks
 pub mod Parsing
 pub mod Sparse
 pub mod Going
-pub mod Headings
+pub mod Tickets

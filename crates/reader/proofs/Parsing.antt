@@ -6,16 +6,17 @@ use Rattle.terms.specs.Nodes.{laid, with_next}
 use Rattle.terms.specs.Layout.{in_use, LaysOut}
 use Rattle.reading.specs.declared.token.At.{At}
 use Rattle.reader.specs.declared.parser.Frame.{Frame}
-use Rattle.stack.specs.declared.Stack.{Stack as Pile}
-use Rattle.reader.specs.declared.parser.Phase.TheVariants.{Wants, Opens, Has}
+use Rattle.fixed_vec.specs.declared.FixedVec.{FixedVec}
+use Rattle.reader.specs.declared.parser.Whole.{Whole}
+use Rattle.reader.specs.declared.parser.Phase.TheVariants.{Wants, Has}
 use Rattle.reader.specs.declared.parser.Parser.{Parser}
-use Rattle.stack.specs.Stack.{content}
+use Rattle.fixed_vec.specs.FixedVec.{content}
 use Rattle.reading.specs.Reading.{Context, top, within, State, wants, opens, has, and_then, closed, continued, ending}
 use Rattle.reader.specs.Parsing.{operator_node, stack_nodes, stack_frames, Holds, Roomy}
 use Rattle.reader.proofs.Stacks.{closed_nodes, continued_nodes, fewer_frames}
 
 never_nil : {x : Frame} {xs : List Frame} → [] ≡ x ∷ xs → ⊥
-never_nil e = let z : ◌≡◌ {A = ℕ} 0 1 = cc in omega arith
+never_nil e = cc
 
 same_top : {x y : Frame} {xs ys : List Frame} → x ∷ xs ≡ y ∷ ys → x ≡ y
 same_top e = cc
@@ -24,8 +25,8 @@ same_rest : {x y : Frame} {xs ys : List Frame} → x ∷ xs ≡ y ∷ ys → xs 
 same_rest e = cc
 
 -- ')' behind a term
-pub close_holds : (p : Parser) (rest : Pile Frame 2048) (frame : Frame) (at : At) (t : Term) (m : Option At) (k : Context) → Holds p (has t m k) → content p.frames ≡ frame ∷ content rest → frame.left ≤ 0
-    → (s : State) × (closed t k at ≡ Ok s) × Holds (record { nodes = p.nodes; frames = rest; phase = Has frame.node None }) s
+pub close_holds : (p : Parser) (rest : FixedVec Frame 2048) (frame : Frame) (at : At) (t : Term) (m : Option At) (k : Context) → Holds p (has t m k) → content p.frames ≡ frame ∷ content rest → frame.left ≤ 0
+    → (s : State) × (closed t k at ≡ Ok s) × Holds (record { nodes = p.nodes; frames = rest; phase = Has (record { root = frame.node; bare = None }) }) s
 close_holds p rest frame at t m top h e l = absurd (never_nil (sym h.frames_are ∙ e))
 close_holds p rest frame at t m (within f a ts zero k) h e l =
     let both = sym e ∙ h.frames_are in (
@@ -34,7 +35,7 @@ close_holds p rest frame at t m (within f a ts zero k) h e l =
       record {
         nodes_are = h.nodes_are ∙ closed_nodes t f (stack_nodes k) ts;
         frames_are = same_rest both;
-        phase_is = ap (λ (x : Frame). Has x.node None) (same_top both);
+        phase_is = ap (λ (x : Frame). Has (record { root = x.node; bare = None })) (same_top both);
       },
     )
 close_holds p rest frame at t m (within f a ts (suc n) k) h e l = absurd (omega (arith, ap (λ (x : Frame). x.left) (same_top (sym e ∙ h.frames_are))))
@@ -43,7 +44,7 @@ close_holds p rest frame at t m (within f a ts (suc n) k) h e l = absurd (omega 
 pub room_to_open : (f : ℕ) (a : At) (n : ℕ) (k : Context) (place : ℕ) → Roomy (opens f a n k) place → length (stack_frames k) < 2048
 room_to_open f a n k place r = omega (arith, r.0, r.1, fewer_frames k, length-append (stack_nodes k) (operator_node f (length (stack_nodes k)) ∷ []))
 
-pub open_holds : (p : Parser) (more : Pile Frame 2048) (frame : Frame) (f : ℕ) (k : Context) → Holds p (opens f frame.at frame.left k) → frame.node ≡ length (stack_nodes k) → content more ≡ frame ∷ content p.frames
+pub open_holds : (p : Parser) (more : FixedVec Frame 2048) (frame : Frame) (f : ℕ) (k : Context) → Holds p (opens f frame.at frame.left k) → frame.node ≡ length (stack_nodes k) → content more ≡ frame ∷ content p.frames
     → Holds (record { nodes = p.nodes; frames = more; phase = Wants }) (wants (within f frame.at nil frame.left k))
 open_holds p more frame f k h e q = record {
   nodes_are = h.nodes_are;
@@ -55,7 +56,7 @@ open_holds p more frame f k h e q = record {
 pub room_to_continue : (t : Term) (m : Option At) (k : Context) (place : ℕ) → Roomy (has t m k) place → length (stack_frames k) ≤ 2048
 room_to_continue t m k place r = omega (arith, r.0, r.1, fewer_frames k, length-append (stack_nodes k) (laid (length (stack_nodes k)) None t))
 
-pub continue_holds : (p : Parser) (linkd : Layout 2048) (rest more : Pile Frame 2048) (frame : Frame) (at : At) (root left next : ℕ) (t : Term) (m : Option At) (k : Context)
+pub continue_holds : (p : Parser) (linkd : Layout 2048) (rest more : FixedVec Frame 2048) (frame : Frame) (at : At) (root left next : ℕ) (t : Term) (m : Option At) (k : Context)
     → Holds p (has t m k) → root ≡ length (stack_nodes k) → content p.frames ≡ frame ∷ content rest → suc left ≡ frame.left → next ≡ length (in_use p.nodes) → in_use linkd ≡ with_next (in_use p.nodes) root next
     → content more ≡ record { node = frame.node; at = frame.at; left = left } ∷ content rest
     → (s : State) × (continued t k at ≡ Ok s) × Holds (record { nodes = linkd; frames = more; phase = Wants }) s
@@ -74,14 +75,8 @@ continue_holds p linkd rest more frame at root left next t m (within f a ts (suc
     )
 
 -- the end of the text
-no_phase : {i : ℕ} {m : Option At} → Has i m ≡ Wants → ⊥
-no_phase e = let z : ◌≡◌ {A = ℕ} 0 1 = cc in omega arith
-
-no_opening : {i : ℕ} {m : Option At} {x : Frame} → Has i m ≡ Opens x → ⊥
-no_opening e = let z : ◌≡◌ {A = ℕ} 0 1 = cc in omega arith
-
-pub finish_holds : (p : Parser) (i : ℕ) (b : Option At) (at : At) (s : State) → Holds p s → p.phase ≡ Has i b → content p.frames ≡ [] → (t : Term) × (ending s at ≡ Ok t) × LaysOut p.nodes t
-finish_holds p i b at (wants k) h e q = absurd (no_phase (sym e ∙ h.phase_is))
-finish_holds p i b at (opens f a n k) h e q = absurd (no_opening (sym e ∙ h.phase_is))
-finish_holds p i b at (has t m top) h e q = (t, refl, h.nodes_are)
-finish_holds p i b at (has t m (within f a ts n k)) h e q = absurd (never_nil (sym q ∙ h.frames_are))
+pub finish_holds : (p : Parser) (w : Whole) (at : At) (s : State) → Holds p s → p.phase ≡ Has w → content p.frames ≡ [] → (t : Term) × (ending s at ≡ Ok t) × LaysOut p.nodes t
+finish_holds p w at (wants k) h e q = let z = sym e ∙ h.phase_is in cc
+finish_holds p w at (opens f a n k) h e q = let z = sym e ∙ h.phase_is in cc
+finish_holds p w at (has t m top) h e q = (t, refl, h.nodes_are)
+finish_holds p w at (has t m (within f a ts n k)) h e q = absurd (never_nil (sym q ∙ h.frames_are))

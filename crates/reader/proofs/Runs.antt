@@ -1,34 +1,29 @@
--- Runs of one class of bytes, and the first token of a text.
-use Rattle.std.proofs.Common.{◌≡◌, ℕ, zero, suc, ◌<◌, ◌≤◌, Bool, true, false, cond, List, [], ◌∷◌, length, get_or, take, drop, refl, ap, arith, drop-cons}
-use Rattle.std.proofs.lemmas.List.{drop_all}
+-- Runs of bytes of one kind, and the first token of a text.
+use Rattle.std.proofs.Common.{◌≡◌, ℕ, zero, suc, ◌+◌, ◌<◌, Bool, true, false, cond, List, [], ◌∷◌, length, get_or, take, drop, sym, refl, ap, ◌∙◌, arith, subst, leb, ◌≤◌}
+use Rattle.std.specs.List.{prefix_len}
+use Rattle.std.proofs.lemmas.List.Folds.{length-prefix_len}
+use Rattle.std.proofs.lemmas.Bool.{cond-true, le-leb, and_from}
+use Rattle.terms.specs.Signature.{lower, word, spelt}
 use Rattle.reading.specs.Tokens.{front}
+use Rattle.reading.proofs.Tokens.{Lexed, first_part}
 
--- one byte more
-pub front_on : (p : ℕ → Bool) (bs : List ℕ) (k n m : ℕ) → n < length bs → k ≡ suc m → p (get_or bs n 0) ≡ true → length (front p k (drop n bs)) ≡ suc (length (front p m (drop (suc n) bs)))
-front_on p bs k n m h q e = rw (drop-cons bs n 0 h, q) (ap (λ (t : Bool). length (cond t (get_or bs n 0 ∷ front p m (drop (suc n) bs)) [])) e)
-
-pub front_off : (p : ℕ → Bool) (bs : List ℕ) (k n : ℕ) → n < length bs → p (get_or bs n 0) ≡ false → length (front p k (drop n bs)) ≡ 0
-front_off p bs zero n h e = refl
-front_off p bs (suc k) n h e = rw (drop-cons bs n 0 h) (ap (λ (t : Bool). length (cond t (get_or bs n 0 ∷ front p k (drop (suc n) bs)) [])) e)
-
-pub front_end : (p : ℕ → Bool) (bs : List ℕ) (k n : ℕ) → length bs ≤ n → length (front p k (drop n bs)) ≡ 0
-front_end p bs zero n h = refl
-front_end p bs (suc k) n h = rw (drop_all n bs h)
-
-pub front_none : (p : ℕ → Bool) (bs : List ℕ) (k : ℕ) → k ≡ 0 → length (front p k bs) ≡ 0
-front_none p bs k e = ap (λ x. length (front p x bs)) e
-
-pub front_le : (p : ℕ → Bool) (k : ℕ) (bs : List ℕ) → length (front p k bs) ≤ length bs
-front_le p zero bs = omega arith
-front_le p (suc k) [] = omega arith
-front_le p (suc k) (b ∷ bs) = let ih = front_le p k bs in elim (p b) as (λ t. length (cond t (b ∷ front p k bs) []) ≤ length (b ∷ bs)) [ true ↦ omega arith | false ↦ omega arith ]
-
-pub take_front : (p : ℕ → Bool) (k : ℕ) (bs : List ℕ) → take (length (front p k bs)) bs ≡ front p k bs
-take_front p zero bs = refl
-take_front p (suc k) [] = refl
-take_front p (suc k) (b ∷ bs) = let ih = take_front p k bs in elim (p b) as (λ t. take (length (cond t (b ∷ front p k bs) [])) (b ∷ bs) ≡ cond t (b ∷ front p k bs) []) [ true ↦ ap (λ l. b ∷ l) ih | false ↦ refl ]
+-- a run is the front of what is in reach
+front_run : (p : ℕ → Bool) (k : ℕ) (bs : List ℕ) → front p k bs ≡ take (prefix_len p (take k bs)) bs
+front_run p zero bs = refl
+front_run p (suc k) [] = refl
+front_run p (suc k) (b ∷ bs) = let ih = front_run p k bs in elim (p b) as (λ t. cond t (b ∷ front p k bs) [] ≡ take (cond t (1 + prefix_len p (take k bs)) 0) (b ∷ bs)) [ true ↦ (let e : 1 + prefix_len p (take k bs) ≡ suc (prefix_len p (take k bs)) = omega arith in rw e (ap (λ l. b ∷ l) ih)) | false ↦ refl ]
 
 -- the first byte and its run are a front of the text
-pub run_part_is : (p : ℕ → Bool) (k : ℕ) (bs : List ℕ) (n : ℕ) → 0 < length bs → n ≡ suc (length (front p k (drop 1 bs))) → take n bs ≡ get_or bs 0 0 ∷ front p k (drop 1 bs)
-run_part_is p k [] n h e = absurd (omega arith)
-run_part_is p k (b ∷ bs) n h e = rw e (ap (λ l. b ∷ l) (take_front p k bs))
+pub run_is : (p : ℕ → Bool) (k : ℕ) (bs : List ℕ) (n : ℕ) → 0 < length bs → n ≡ length (take (prefix_len p (take k (drop 1 bs))) (take k (drop 1 bs))) → take (n + 1) bs ≡ get_or bs 0 0 ∷ front p k (drop 1 bs)
+run_is p k [] n h e = absurd (omega arith)
+run_is p k (b ∷ bs) n h e =
+    let long : n ≡ prefix_len p (take k bs) = e ∙ length-prefix_len p (take k bs) in
+    let one : n + 1 ≡ suc (prefix_len p (take k bs)) = omega arith in
+    rw one (ap (λ l. b ∷ l) (sym (front_run p k bs)))
+
+-- a letter and the words behind it are spelt as a name
+pub words_spelt : (s text : List ℕ) → s ≡ get_or text 0 0 ∷ front word 11 (drop 1 text) → 97 ≤ get_or text 0 0 → get_or text 0 0 ≤ 122 → spelt s ≡ true
+words_spelt s text e l h =
+    let b : ℕ = get_or text 0 0 in
+    let letter : lower b ≡ true = and_from (leb 97 b) (leb b 122) (le-leb 97 b l) (le-leb b 122 h) in
+    rw e (subst Lexed (cond-true (lower b) _ _ letter) (first_part b (drop 1 text)).lexed)

@@ -79,7 +79,7 @@ fewer_frames (within f a ts n k) =
     omega (arith, length-append (stack_nodes k) (operator_node f (length (stack_nodes k)) ∷ linked (suc (length (stack_nodes k))) ts))
 
 -- a term without arguments is one node
-pub leaf_laid : (y : Symbol) (t : Term) (i : ℕ) → Leaf y t → laid i None t ≡ record { symbol = y; first = None; next = None } ∷ []
-leaf_laid y (variable x) i e = ap (λ s. record { symbol = s; first = None; next = None } ∷ []) (sym e)
-leaf_laid y (instrument n) i e = ap (λ s. record { symbol = s; first = None; next = None } ∷ []) (sym e)
-leaf_laid y (apply f ts) i e = ap (λ l. laid i None (apply f l)) e.1 ∙ ap (λ s. record { symbol = s; first = None; next = None } ∷ []) (sym e.0)
+pub leaf_laid : (y : Symbol) (t : Term) (i : ℕ) → Leaf y t → laid i None t ≡ record { symbol = Some y; first = None; next = None } ∷ []
+leaf_laid y (variable x) i e = ap (λ s. record { symbol = Some s; first = None; next = None } ∷ []) (sym e)
+leaf_laid y (instrument n) i e = ap (λ s. record { symbol = Some s; first = None; next = None } ∷ []) (sym e)
+leaf_laid y (apply f ts) i e = ap (λ l. laid i None (apply f l)) e.1 ∙ ap (λ s. record { symbol = Some s; first = None; next = None } ∷ []) (sym e.0)

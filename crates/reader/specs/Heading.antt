@@ -1,15 +1,14 @@
 -- What the code holds while it reads the lines that head a sheet, and what it answers.
-use Rattle.std.specs.Prelude.{◌≡◌, ℕ, true, List, Ok, Err, Result}
+use Rattle.std.specs.Prelude.{◌≡◌, Ok, Err, Result}
 use Rattle.signature.specs.declared.operator.Undeclarable.{Undeclarable}
 use Rattle.signature.specs.declared.operator.Undeclarable.TheVariants.{Misspelt, Full, Twice}
 use Rattle.signature.specs.declared.Signature.{Signature}
-use Rattle.terms.specs.Signature.{Sig, spelt}
+use Rattle.terms.specs.Signature.{Sig}
 use Rattle.signature.specs.Declaring.{sig_of}
 use Rattle.reading.specs.declared.token.At.{At}
 use Rattle.reading.specs.declared.fault.TextFault.TheVariants.{Unexpected, PastLimit}
 use Rattle.reading.specs.declared.fault.SheetFault.{SheetFault}
 use Rattle.reading.specs.declared.fault.SheetFault.TheVariants.{Text, Repeated}
-use Rattle.reading.specs.Tokens.{Tok, a_name}
 use Rattle.reading.specs.Heading.{Head, Outcome}
 use Rattle.reader.specs.declared.heading.Heading.{Heading}
 
@@ -21,10 +20,6 @@ head_of h = (sig_of h.signature, h.stage)
 abbrev pub Headed : Result (Unit {0}) SheetFault → Outcome → Head → Type 0
 Headed (Ok u) o h = o ≡ Ok h
 Headed (Err e) o h = o ≡ Err e
-
--- a token that is a name is spelt as one
-abbrev pub NameSpelt : Tok → Type 0
-NameSpelt k = (s : List ℕ) → k ≡ a_name s → spelt s ≡ true
 
 -- the fault of a name that is not declared
 abbrev pub why_not : Undeclarable → At → SheetFault

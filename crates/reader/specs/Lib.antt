@@ -1,4 +1,5 @@
 pub mod Lexing
+pub mod Heading
+pub mod Machine
 pub mod Parsing
 pub mod Ticket
-pub mod Heading

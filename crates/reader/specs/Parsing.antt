@@ -7,17 +7,18 @@ use Rattle.terms.specs.declared.symbol.Symbol.TheVariants.{Variable, Instrument,
 use Rattle.terms.specs.Term.{Term, variable, instrument, apply, Terms, nil, cons, symbols}
 use Rattle.terms.specs.Nodes.{laid}
 use Rattle.terms.specs.Layout.{in_use, LaysOut}
+use Rattle.reading.specs.declared.token.At.{At}
 use Rattle.reading.specs.declared.fault.TextFault.{TextFault}
 use Rattle.reader.specs.declared.parser.Frame.{Frame}
 use Rattle.reader.specs.declared.parser.Phase.{Phase}
 use Rattle.reader.specs.declared.parser.Phase.TheVariants.{Wants, Opens, Has}
 use Rattle.reader.specs.declared.parser.Parser.{Parser}
-use Rattle.stack.specs.Stack.{content}
+use Rattle.fixed_vec.specs.FixedVec.{content}
 use Rattle.reading.specs.Reading.{Context, top, within, State, wants, opens, has}
 
 -- an operator whose arguments begin at the next place
 abbrev pub operator_node : ℕ → ℕ → Node
-operator_node f i = record { symbol = Operator f; first = Some (suc i); next = None }
+operator_node f i = record { symbol = Some (Operator f); first = Some (suc i); next = None }
 
 -- arguments from the place i on, each linked to the place behind it
 abbrev pub linked : ℕ → Terms → List Node
@@ -46,7 +47,7 @@ state_frames (has t m k) = stack_frames k
 abbrev pub state_phase : State → Phase
 state_phase (wants k) = Wants
 state_phase (opens f a n k) = Opens (record { node = length (stack_nodes k); at = a; left = n })
-state_phase (has t m k) = Has (length (stack_nodes k)) m
+state_phase (has t m k) = Has (record { root = length (stack_nodes k); bare = m })
 
 -- the parser holds what the state says
 pub record Holds (p : Parser) (s : State) : Type 0 where
@@ -75,9 +76,13 @@ Leaf y (variable x) = y ≡ Variable x
 Leaf y (instrument n) = y ≡ Instrument n
 Leaf y (apply f ts) = (y ≡ Operator f) × (ts ≡ nil)
 
--- one token takes the parser from the state that it holds to the next
-abbrev pub Moves : Parser → ℕ → Result (Unit {0}) TextFault → (State → Result State TextFault) → Parser → Type 0
-Moves p place r next q = (s : State) → Holds p s → Roomy s place → Stepped r (next s) q
+-- a token at a place takes the parser, if it holds the state, to what follows
+abbrev pub Takes : Parser → State → At → Result (Unit {0}) TextFault → Result State TextFault → Parser → Type 0
+Takes p s at r next q = Holds p s → Roomy s at.place → Stepped r next q
+
+-- and that from each state
+abbrev pub Moves : Parser → At → Result (Unit {0}) TextFault → (State → Result State TextFault) → Parser → Type 0
+Moves p at r next q = (s : State) → Takes p s at r (next s) q
 
 -- at the end of the text: the nodes of the term that was read, or the fault
 abbrev pub Finished : Result (Layout 2048) TextFault → Result Term TextFault → Type 0

@@ -2,10 +2,9 @@ ghost use Rattle.reading.specs.Heading.{read_heading};
 ghost use Rattle.reading.specs.HeadingLaw.{HeadingLaw};
 ghost use Rattle.reader.specs.Heading.{Heads};
 
-use crate::token::Lexer;
-use reading::fault::{SheetFault, TextFault};
+use crate::machine::read;
+use reading::fault::SheetFault;
 use reading::heading::Stage;
-use reading::token::At;
 use signature::Signature;
 
 mod stepping;
@@ -26,13 +25,5 @@ pub fn read_signature(text: &[u8]) -> Result<Signature, SheetFault>
     ensures reads { Heads result (read_heading text.now) }
     ensures law { HeadingLaw text.now }
 {
-    if text.len() > SHEET_BYTES {
-        return Err(SheetFault::Text(TextFault::PastLimit(At { place: 0, line: 0 })));
-    }
-    let mut lexer = Lexer::new(text);
-    let mut heading = Heading::new();
-    while let Some(lexeme) = lexer.next_token() {
-        heading.step(lexeme.token, lexeme.at)?;
-    }
-    heading.finish(lexer.at())
+    read(Heading::new(), text)
 }

@@ -1,51 +1,52 @@
-ghost use Rattle.std.specs.Prelude.{◌≡◌, ℕ, ◌+◌, ◌-◌, ◌^◌, ◌<◌, ◌≤◌, ◌∷◌, length, drop, slice_index};
+ghost use Rattle.std.specs.Prelude.{◌≡◌, ℕ, ◌+◌, ◌-◌, ◌^◌, ◌<◌, ◌≤◌, ◌∷◌, Bool, length, drop, slice_index};
 ghost use Rattle.reading.specs.Tokens.{front, single, first_token, first_of_text, token_bytes, lines, origin};
+ghost use Rattle.std.specs.Fn.{ComputesKey};
 ghost use Rattle.std.specs.Option.{option_map};
-ghost use Rattle.reader.specs.Lexing.{in_class, meaning, what_is_left, now_at, Lexed};
+ghost use Rattle.terms.specs.Signature.{digit, word};
+ghost use Rattle.reader.specs.Lexing.{meaning, what_is_left, Lexed};
 
-use crate::token::{Lexeme, Lexer, Token};
+use crate::token::{Lexeme, Lexer, Name, Token};
 use reading::token::{At, Mark};
 
 // A name has at most so many bytes behind its first.
 const NAME_REST: usize = 11;
 
-// What a run of bytes is made of: lower-case letters and digits, or digits alone.
-#[derive(Clone, Copy)]
-pub enum Class {
-    Words,
-    Digits,
-}
-
-impl Class {
-    fn has(self, b: u8) -> bool
-        ensures { result ≡ in_class self b }
-    {
-        match self {
-            Class::Words => matches!(b, b'a'..=b'z' | b'0'..=b'9'),
-            Class::Digits => matches!(b, b'0'..=b'9'),
-        }
-    }
-}
-
-// How many bytes at the front are of one class, of so many at most.
-fn run_len(part: &[u8], class: Class, most: usize) -> usize
-    ensures long { result ≡ length (front (in_class class) most part.now) }
-    ensures within { result ≤ length part.now }
+// The first byte with the run behind it of bytes that are wanted, of so many at most.
+fn run<'t, F: Fn(&u8) -> bool>(text: &'t [u8], wanted: F, most: usize) -> &'t [u8]
+    requires some { 0 < length text.now }
+    requires callable { (f : _) (b : _) → F.FnMut.pre f b }
+    ensures { (p : ℕ → Bool) → ComputesKey F.FnMut p wanted → result.now ≡ slice_index text.now 0 ∷ front p most (drop 1 text.now) }
 {
-    let mut n = 0;
-    while n < most && n < part.len() && class.has(part[n]) {
-        n += 1;
-    }
-    n
+    let behind = text[1..]
+        .iter()
+        .copied()
+        .take(most)
+        .take_while(wanted)
+        .count();
+    &text[..behind + 1]
 }
 
-// The first byte with the run that follows it.
-fn run_part<'t>(text: &'t [u8], class: Class, most: usize) -> &'t [u8]
+// The first byte and the digits behind it.
+fn digits<'t>(text: &'t [u8]) -> &'t [u8]
     requires { 0 < length text.now }
-    ensures { result.now ≡ slice_index text.now 0 ∷ front (in_class class) most (drop 1 text.now) }
+    ensures { result.now ≡ slice_index text.now 0 ∷ front digit (length (drop 1 text.now)) (drop 1 text.now) }
 {
-    let n = run_len(&text[1..], class, most);
-    &text[0..n + 1]
+    run(text, u8::is_ascii_digit, text.len() - 1)
+}
+
+// The first byte and the lower-case letters and digits behind it, as far as a name goes.
+fn words<'t>(text: &'t [u8]) -> &'t [u8]
+    requires { 0 < length text.now }
+    ensures { result.now ≡ slice_index text.now 0 ∷ front word 11 (drop 1 text.now) }
+{
+    run(text, is_word, NAME_REST)
+}
+
+// What a name goes on with.
+fn is_word(b: &u8) -> bool
+    ensures { result ≡ word b.now }
+{
+    b.is_ascii_lowercase() || b.is_ascii_digit()
 }
 
 // The token of a byte that no name, number or instrument begins with.
@@ -66,14 +67,15 @@ fn single_token<'t>(b: u8) -> Token<'t>
 }
 
 // The first token of a text that is not empty. A name ends after 12 bytes.
+#[tactic(auto, using(crate::proofs::Runs::words_spelt))]
 fn first_token<'t>(text: &'t [u8]) -> Option<Token<'t>>
     ensures { option_map meaning result ≡ first_of_text text.now }
 {
     match text {
         [] => None,
-        [b'a'..=b'z', ..] => Some(Token::Name(run_part(text, Class::Words, NAME_REST))),
-        [b'0'..=b'9', rest @ ..] => Some(Token::Number(run_part(text, Class::Digits, rest.len()))),
-        [b'#', rest @ ..] => Some(Token::Instrument(run_part(text, Class::Digits, rest.len()))),
+        [b'a'..=b'z', ..] => Some(Token::Name(Name { bytes: words(text) })),
+        [b'0'..=b'9', ..] => Some(Token::Number(digits(text))),
+        [b'#', ..] => Some(Token::Instrument(digits(text))),
         [b, ..] => Some(single_token(*b)),
     }
 }
@@ -84,12 +86,9 @@ impl<'t> Token<'t> {
         ensures { result ≡ length (token_bytes (meaning self.entry)) }
     {
         match self {
-            Token::Name(part) => part.len(),
-            Token::Number(part) => part.len(),
-            Token::Instrument(part) => part.len(),
-            Token::Variable(_) => 1,
-            Token::Mark(_) => 1,
-            Token::Stray(_) => 1,
+            Token::Name(name) => name.bytes.len(),
+            Token::Number(part) | Token::Instrument(part) => part.len(),
+            Token::Variable(_) | Token::Mark(_) | Token::Stray(_) => 1,
         }
     }
 
@@ -107,22 +106,11 @@ impl<'t> Token<'t> {
 impl<'t> Lexer<'t> {
     pub fn new(text: &'t [u8]) -> Lexer<'t>
         ensures rest { what_is_left result ≡ text.now }
-        ensures at { now_at result ≡ origin }
+        ensures at { result.at ≡ origin }
     {
         Lexer {
             rest: text,
-            place: 0,
-            line: 0,
-        }
-    }
-
-    // Where the rest of the text begins.
-    pub fn at(&self) -> At
-        ensures { result ≡ now_at self.now }
-    {
-        At {
-            place: self.place,
-            line: self.line,
+            at: At::ORIGIN,
         }
     }
 
@@ -130,15 +118,15 @@ impl<'t> Lexer<'t> {
     pub fn next_token(&mut self) -> Option<Lexeme<'t>>
         ensures { Lexed self.old result self.new }
     {
-        let Some(token) = first_token(self.rest) else {
-            return None;
-        };
-        let at = self.at();
+        let Lexer { rest, at } = *self;
+        let token = first_token(rest)?;
         let width = token.width();
         *self = Lexer {
-            rest: &self.rest[width..],
-            place: at.place + width,
-            line: at.line + token.line_ends(),
+            rest: &rest[width..],
+            at: At {
+                place: at.place + width,
+                line: at.line + token.line_ends(),
+            },
         };
         Some(Lexeme { token, at })
     }

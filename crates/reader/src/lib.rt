@@ -4,6 +4,7 @@
 pub mod heading;
 mod judging;
 mod lexer;
+mod machine;
 mod number;
 mod parser;
 pub mod ticket;

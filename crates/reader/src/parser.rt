@@ -1,6 +1,6 @@
 use crate::ticket::TICKET_NODES;
+use fixed_vec::FixedVec;
 use reading::token::At;
-use stack::Stack;
 use terms::layout::Layout;
 
 pub mod parsing;
@@ -13,18 +13,25 @@ pub struct Frame {
     pub left: u8,
 }
 
-// What may come: a term; an opening parenthesis behind an operator; or what follows a term, with the place of an operator without arguments that stands just before.
+// A term that was read: the node of its root, and the place of an operator without arguments that stands just before.
+#[derive(Clone, Copy)]
+pub struct Whole {
+    pub root: u16,
+    pub bare: Option<At>,
+}
+
+// What may come: a term; an opening parenthesis behind an operator; or what follows a term.
 #[derive(Clone, Copy)]
 pub enum Phase {
     Wants,
     Opens(Frame),
-    Has { root: u16, bare: Option<At> },
+    Has(Whole),
 }
 
 // What is read so far: the nodes in reading order, the operators whose arguments are being read, and what may come.
-#[derive(Drop)]
+#[derive(Clone, Copy)]
 pub struct Parser {
     nodes: Layout<TICKET_NODES>,
-    frames: Stack<Frame, TICKET_NODES>,
+    frames: FixedVec<Frame, TICKET_NODES>,
     phase: Phase,
 }

@@ -1,11 +1,19 @@
-ghost use Rattle.std.specs.Prelude.{◌+◌, ◌^◌, ◌<◌, ◌≤◌, length};
+ghost use Rattle.std.specs.Prelude.{◌≡◌, ◌+◌, ◌^◌, ◌<◌, ◌≤◌, true, length};
+ghost use Rattle.terms.specs.Signature.{spelt};
 
 use reading::token::{At, Mark};
+
+// A part of the text that is spelt as a name.
+#[derive(Clone, Copy)]
+pub struct Name<'t> {
+    pub bytes: &'t [u8],
+    ghost is_spelt: { spelt bytes.now ≡ true },
+}
 
 // A token. Names, numbers and instruments are the parts of the text that they were read from.
 #[derive(Clone, Copy)]
 pub enum Token<'t> {
-    Name(&'t [u8]),
+    Name(Name<'t>),
     Number(&'t [u8]),
     Instrument(&'t [u8]),
     Variable(u8),
@@ -25,8 +33,7 @@ pub struct Lexeme<'t> {
 #[derive(Clone, Copy)]
 pub struct Lexer<'t> {
     pub rest: &'t [u8],
-    pub place: usize,
-    pub line: usize,
-    ghost fits: { place + length rest.now < 2 ^ 64 },
-    ghost few: { line ≤ place },
+    pub at: At,
+    ghost fits: { at.place + length rest.now < 2 ^ 64 },
+    ghost few: { at.line ≤ at.place },
 }

@@ -1,18 +1,15 @@
-ghost use Rattle.std.specs.Prelude.{◌≡◌, []};
+ghost use Rattle.std.specs.Prelude.{◌≡◌, suc, [], length, nat_lt};
 ghost use Rattle.signature.specs.Declaring.{sig_of};
 ghost use Rattle.reading.specs.Tokens.{a_name, a_number};
-ghost use Rattle.reading.specs.Reading.{fault_of};
-ghost use Rattle.reading.specs.declared.fault.SheetFault.TheVariants.{Text};
-ghost use Rattle.reading.specs.declared.fault.TextFault.TheVariants.{Unexpected};
 ghost use Rattle.reading.specs.declared.heading.Stage.TheVariants.{WantsName};
-ghost use Rattle.reading.specs.Heading.{wants_name, has_name_mark, has_name, wants_count, has_count_mark, has_count, head_step, head_end};
-ghost use Rattle.reader.specs.Lexing.{meaning};
-ghost use Rattle.reader.specs.Heading.{head_of, Headed, NameSpelt, why_not, Heads};
+ghost use Rattle.terms.specs.Signature.{Sig};
+ghost use Rattle.reading.specs.Heading.{Head, wants_name, wants_count, head_step, head_end};
+ghost use Rattle.reader.specs.Heading.{head_of, Headed, why_not};
 
-use super::Heading;
-use crate::judging::fault_of;
+use super::{Heading, SHEET_BYTES};
+use crate::machine::Machine;
 use crate::number::number;
-use crate::token::Token;
+use crate::token::{Lexeme, Name, Token};
 use reading::fault::{SheetFault, TextFault};
 use reading::heading::Stage;
 use reading::token::{At, Mark};
@@ -22,20 +19,13 @@ use signature::operator::Undeclarable;
 // The largest argument count.
 const LARGEST_COUNT: u32 = 3;
 
-// The fault of a token that is not allowed here.
-fn not_here(token: Token, at: At) -> SheetFault
-    ensures { result ≡ Text (fault_of (meaning token.entry) at (Unexpected at)) }
-{
-    SheetFault::Text(fault_of(token, at, TextFault::Unexpected(at)))
-}
-
 // The fault of a name that is not declared. No token is a name that is misspelt.
 fn name_fault(why: Undeclarable, at: At) -> SheetFault
     ensures { result ≡ why_not why at }
 {
     match why {
-        Undeclarable::Misspelt => SheetFault::Text(TextFault::Unexpected(at)),
-        Undeclarable::Full => SheetFault::Text(TextFault::PastLimit(at)),
+        Undeclarable::Misspelt => TextFault::Unexpected(at).into(),
+        Undeclarable::Full => TextFault::PastLimit(at).into(),
         Undeclarable::Twice => SheetFault::Repeated(at),
     }
 }
@@ -52,125 +42,80 @@ impl Heading {
     }
 
     // A name, where one may come.
-    fn take_name(&mut self, name: &[u8], at: At) -> Result<(), SheetFault>
-        ensures { NameSpelt (a_name name.now) → Headed result (wants_name (a_name name.now) (sig_of self.old.signature) at) (head_of self.new) }
+    fn take_name(&mut self, name: Name, at: At) -> Result<(), SheetFault>
+        ensures { Headed result (wants_name 32 (a_name name.entry.bytes.now) (sig_of self.old.signature) at) (head_of self.new) }
     {
-        match self.signature.declare(name) {
-            Ok(()) => {
-                self.stage = Stage::HasName;
-                Ok(())
-            }
-            Err(why) => Err(name_fault(why, at)),
-        }
-    }
-
-    // Where a name must stand.
-    fn want_name(&mut self, token: Token, at: At) -> Result<(), SheetFault>
-        ensures { NameSpelt (meaning token.entry) → Headed result (wants_name (meaning token.entry) (sig_of self.old.signature) at) (head_of self.new) }
-    {
-        match token {
-            Token::Name(name) => self.take_name(name, at),
-            _ => Err(not_here(token, at)),
-        }
-    }
-
-    // Behind a name.
-    fn follow_name(&mut self, token: Token, at: At) -> Result<(), SheetFault>
-        ensures { Headed result (has_name (meaning token.entry) (sig_of self.old.signature) at) (head_of self.new) }
-    {
-        match token {
-            Token::Mark(mark) => self.follow_name_mark(mark, at),
-            _ => Err(not_here(token, at)),
-        }
-    }
-
-    fn follow_name_mark(&mut self, mark: Mark, at: At) -> Result<(), SheetFault>
-        ensures { Headed result (has_name_mark mark (sig_of self.old.signature) at) (head_of self.new) }
-    {
-        match mark {
-            Mark::Blank => {
-                self.stage = Stage::WantsName;
-                Ok(())
-            }
-            Mark::LineEnd => {
-                self.stage = Stage::WantsCount(0);
-                Ok(())
-            }
-            _ => Err(SheetFault::Text(TextFault::Unexpected(at))),
-        }
+        self.signature
+            .declare(name.bytes)
+            .map_err(|why| name_fault(why, at))?;
+        self.stage = Stage::HasName;
+        Ok(())
     }
 
     // A count, where that of an operator may come.
     fn take_count(&mut self, operator: u8, digits: &[u8], at: At) -> Result<(), SheetFault>
         ensures { Headed result (wants_count (a_number digits.now) (sig_of self.old.signature) operator at) (head_of self.new) }
     {
-        let Some(count) = number(digits, LARGEST_COUNT) else {
-            return Err(SheetFault::Text(TextFault::BadNumber(at)));
-        };
+        let count = number(digits, LARGEST_COUNT).ok_or(TextFault::BadNumber(at))?;
         // where no such operator is declared nothing is set, as in the definition
-        self.signature.rank(operator, count as u8);
+        let _ = self.signature.rank(operator, count as u8);
         self.stage = Stage::HasCount(operator);
         Ok(())
     }
 
-    // Where the count of an operator must stand.
-    fn want_count(&mut self, operator: u8, token: Token, at: At) -> Result<(), SheetFault>
-        ensures { Headed result (wants_count (meaning token.entry) (sig_of self.old.signature) operator at) (head_of self.new) }
+    // Whether another operator is declared behind this one.
+    fn is_followed(&self, operator: u8) -> bool
+        ensures { result ≡ nat_lt (suc operator) (length (sig_of self.now.signature)) }
     {
-        match token {
-            Token::Number(digits) => self.take_count(operator, digits, at),
-            _ => Err(not_here(token, at)),
-        }
+        (operator as usize) + 1 < self.signature.len()
+    }
+}
+
+impl Machine for Heading {
+    type Output = Signature;
+
+    type Fault = SheetFault;
+
+    ghost State = { Head };
+
+    ghost Value = { Sig };
+
+    ghost most_bytes = { 32768 };
+
+    ghost rules = { λ h. record { step = head_step 32; end = head_end } };
+
+    ghost stands = { λ h s place. s ≡ head_of h };
+
+    ghost gives = { λ signature sig. sig ≡ sig_of signature };
+
+    fn limit(&self) -> usize {
+        SHEET_BYTES
     }
 
-    // Behind the count of an operator.
-    fn follow_count(&mut self, operator: u8, token: Token, at: At) -> Result<(), SheetFault>
-        ensures { Headed result (has_count (meaning token.entry) (sig_of self.old.signature) operator at) (head_of self.new) }
-    {
-        match token {
-            Token::Mark(mark) => self.follow_count_mark(operator, mark, at),
-            _ => Err(not_here(token, at)),
-        }
-    }
-
-    // A blank where more operators follow, and else the end of the line.
-    fn follow_count_mark(&mut self, operator: u8, mark: Mark, at: At) -> Result<(), SheetFault>
-        ensures { Headed result (has_count_mark mark (sig_of self.old.signature) operator at) (head_of self.new) }
-    {
-        let more = operator as usize + 1 < self.signature.len();
-        match mark {
-            Mark::Blank if more => {
+    fn step(&mut self, lexeme: Lexeme) -> Result<(), SheetFault> {
+        match (self.stage, lexeme.token) {
+            (Stage::WantsName, Token::Name(name)) => return self.take_name(name, lexeme.at),
+            (Stage::HasName, Token::Mark(Mark::Blank)) => self.stage = Stage::WantsName,
+            (Stage::HasName, Token::Mark(Mark::LineEnd)) => self.stage = Stage::WantsCount(0),
+            (Stage::WantsCount(operator), Token::Number(digits)) => {
+                return self.take_count(operator, digits, lexeme.at);
+            }
+            (Stage::HasCount(operator), Token::Mark(Mark::Blank)) if self.is_followed(operator) => {
                 self.stage = Stage::WantsCount(operator + 1);
-                Ok(())
             }
-            Mark::LineEnd if !more => {
+            (Stage::HasCount(operator), Token::Mark(Mark::LineEnd))
+                if !self.is_followed(operator) => {
                 self.stage = Stage::Done;
-                Ok(())
             }
-            _ => Err(SheetFault::Text(TextFault::Unexpected(at))),
+            _ => return Err(lexeme.unexpected().into()),
         }
+        Ok(())
     }
 
-    // One token.
-    pub fn step(&mut self, token: Token, at: At) -> Result<(), SheetFault>
-        ensures { NameSpelt (meaning token.entry) → Headed result (head_step (head_of self.old) at (meaning token.entry)) (head_of self.new) }
-    {
-        match self.stage {
-            Stage::WantsName => self.want_name(token, at),
-            Stage::HasName => self.follow_name(token, at),
-            Stage::WantsCount(operator) => self.want_count(operator, token, at),
-            Stage::HasCount(operator) => self.follow_count(operator, token, at),
-            Stage::Done => Err(not_here(token, at)),
-        }
-    }
-
-    // The end of the text.
-    pub fn finish(&self, at: At) -> Result<Signature, SheetFault>
-        ensures { Heads result (head_end (head_of self.now) at) }
-    {
+    fn finish(self, at: At) -> Result<Signature, SheetFault> {
         match self.stage {
             Stage::Done => Ok(self.signature),
-            _ => Err(SheetFault::Text(TextFault::Unexpected(at))),
+            _ => Err(TextFault::Unexpected(at).into()),
         }
     }
 }

@@ -1,19 +1,21 @@
-ghost use Rattle.std.specs.Prelude.{◌≡◌, ℕ, ◌<◌, ◌≤◌, length, Some, None, Ok, Err, Option};
-ghost use Rattle.terms.specs.Term.{Term, instrument, apply, nil};
+ghost use Rattle.std.specs.Prelude.{◌≡◌, ℕ, Ok, Option};
+ghost use Rattle.terms.specs.Term.{Term, nil};
 ghost use Rattle.signature.specs.Declaring.{sig_of};
+ghost use Rattle.reading.specs.declared.token.Mark.TheVariants.{Opening};
+ghost use Rattle.reading.specs.Tokens.{a_name, an_instrument};
+ghost use Rattle.reading.specs.Reading.{Context, top, State, wants, opens, has, on_wants, on_opens_mark, needless, closed, continued, step, ending};
+ghost use Rattle.reader.specs.declared.parser.Phase.TheVariants.{Opens, Has};
 ghost use Rattle.reader.specs.Lexing.{meaning};
-ghost use Rattle.reading.specs.Reading.{Context, top, State, wants, opens, has, on_wants, on_opens, on_opens_mark, on_has, on_has_mark, needless, closed, continued, step, ending};
-ghost use Rattle.reader.specs.Parsing.{stack_nodes, Holds, Leaf, Roomy, Stepped, Moves, Finished};
+ghost use Rattle.reader.specs.Parsing.{Holds, Leaf, Takes, Moves, Finished};
 
-use super::{Frame, Parser, Phase};
-use crate::judging::fault_of;
+use super::{Frame, Parser, Phase, Whole};
 use crate::number::instrument_number;
 use crate::ticket::TICKET_NODES;
-use crate::token::Token;
+use crate::token::{Lexeme, Name, Token};
+use fixed_vec::FixedVec;
 use reading::fault::TextFault;
 use reading::token::{At, Mark};
 use signature::Signature;
-use stack::Stack;
 use terms::layout::Layout;
 use terms::node::Node;
 use terms::symbol::Symbol;
@@ -35,191 +37,142 @@ impl Parser {
     {
         let filler = Frame {
             node: 0,
-            at: At { place: 0, line: 0 },
+            at: At::ORIGIN,
             left: 0,
         };
         Parser {
             nodes: Layout::new(),
-            frames: Stack::new(filler),
+            frames: FixedVec::new(filler),
             phase: Phase::Wants,
         }
     }
 
-    // An instrument, or an operator without arguments, where a term may begin.
+    // A symbol without arguments, where a term may begin.
     fn take_leaf(&mut self, symbol: Symbol, bare: Option<At>, at: At) -> Result<(), TextFault>
-        ensures { (k : Context) (t : Term) → Holds self.old (wants k) → Roomy (wants k) at.place → Leaf symbol t → Stepped result (Ok (has t bare k)) self.new }
+        ensures { (k : Context) (t : Term) → Leaf symbol t → Takes self.old (wants k) at result (Ok (has t bare k)) self.new }
     {
-        let node = Node {
-            symbol,
+        let leaf = Node {
+            symbol: Some(symbol),
             first: None,
             next: None,
         };
-        let Some(root) = self.nodes.push(node) else {
-            return Err(TextFault::PastLimit(at));
-        };
-        self.phase = Phase::Has { root, bare };
+        let root = self.nodes.push(leaf).ok_or(TextFault::PastLimit(at))?;
+        self.phase = Phase::Has(Whole { root, bare });
         Ok(())
     }
 
     // An operator of one argument and so many more, where a term may begin.
     fn take_operator(&mut self, operator: u8, left: u8, at: At) -> Result<(), TextFault>
-        ensures { (k : Context) → Holds self.old (wants k) → Roomy (wants k) at.place → Stepped result (Ok (opens operator at left k)) self.new }
+        ensures { (k : Context) → Takes self.old (wants k) at result (Ok (opens operator at left k)) self.new }
     {
         let first = self.nodes.len() as u16 + 1;
-        let node = Node {
-            symbol: Symbol::Operator(operator),
+        let head = Node {
+            symbol: Some(Symbol::Operator(operator)),
             first: Some(first),
             next: None,
         };
-        let Some(root) = self.nodes.push(node) else {
-            return Err(TextFault::PastLimit(at));
-        };
-        self.phase = Phase::Opens(Frame {
-            node: root,
-            at,
-            left,
-        });
+        let node = self.nodes.push(head).ok_or(TextFault::PastLimit(at))?;
+        self.phase = Phase::Opens(Frame { node, at, left });
         Ok(())
     }
 
-    // Where a term may begin.
-    fn begin(&mut self, signature: &Signature, token: Token, at: At) -> Result<(), TextFault>
-        ensures { (k : Context) → Holds self.old (wants k) → Roomy (wants k) at.place → Stepped result (on_wants (sig_of signature.now) (meaning token.entry) at k) self.new }
+    // A name, where a term may begin.
+    fn take_name(&mut self, signature: &Signature, name: Name, at: At) -> Result<(), TextFault>
+        ensures { (k : Context) → Takes self.old (wants k) at result (on_wants (sig_of signature.now) (a_name name.entry.bytes.now) at k) self.new }
     {
-        match token {
-            Token::Name(part) => {
-                let Some(operator) = signature.find(part) else {
-                    return Err(TextFault::Undeclared(at));
-                };
-                let arity = signature.arity(operator);
-                if arity == 0 {
-                    self.take_leaf(Symbol::Operator(operator), Some(at), at)
-                } else {
-                    self.take_operator(operator, arity - 1, at)
-                }
-            }
-            Token::Instrument(part) => {
-                let Some(n) = instrument_number(part) else {
-                    return Err(TextFault::BadNumber(at));
-                };
-                self.take_leaf(Symbol::Instrument(n), None, at)
-            }
-            _ => Err(fault_of(token, at, TextFault::Unexpected(at))),
+        let operator = signature.find(name.bytes).ok_or(TextFault::Undeclared(at))?;
+        let arity = signature.arity(operator);
+        if arity == 0 {
+            self.take_leaf(Symbol::Operator(operator), Some(at), at)
+        } else {
+            self.take_operator(operator, arity - 1, at)
         }
     }
 
-    // Where '(' must stand, behind an operator that takes arguments.
-    fn open(&mut self, frame: Frame, token: Token, at: At) -> Result<(), TextFault>
-        ensures { (f : ℕ) (k : Context) → Holds self.old (opens f frame.at frame.left k) → Roomy (opens f frame.at frame.left k) at.place → frame.node ≡ length (stack_nodes k) → Stepped result (on_opens (meaning token.entry) at f frame.at frame.left k) self.new }
+    // An instrument, where a term may begin.
+    fn take_instrument(
+        &mut self,
+        signature: &Signature,
+        part: &[u8],
+        at: At,
+    ) -> Result<(), TextFault>
+        ensures { (k : Context) → Takes self.old (wants k) at result (on_wants (sig_of signature.now) (an_instrument part.now) at k) self.new }
     {
-        match token {
-            Token::Mark(mark) => self.open_mark(frame, mark, at),
-            _ => Err(fault_of(token, at, TextFault::WrongArity(frame.at))),
-        }
+        let n = instrument_number(part).ok_or(TextFault::BadNumber(at))?;
+        self.take_leaf(Symbol::Instrument(n), None, at)
     }
 
-    fn open_mark(&mut self, frame: Frame, mark: Mark, at: At) -> Result<(), TextFault>
-        ensures { (f : ℕ) (k : Context) → Holds self.old (opens f frame.at frame.left k) → Roomy (opens f frame.at frame.left k) at.place → frame.node ≡ length (stack_nodes k) → Stepped result (on_opens_mark mark f frame.at frame.left k) self.new }
+    // '(' behind an operator that takes arguments.
+    fn open(&mut self, frame: Frame, at: At) -> Result<(), TextFault>
+        requires { self.old.phase ≡ Opens frame }
+        ensures { (f : ℕ) (k : Context) → Takes self.old (opens f frame.at frame.left k) at result (on_opens_mark Opening f frame.at frame.left k) self.new }
     {
-        let Mark::Opening = mark else {
-            return Err(TextFault::WrongArity(frame.at));
-        };
-        if !self.frames.push(frame) {
-            return Err(TextFault::PastLimit(at));
-        }
+        self.frames
+            .push(frame)
+            .map_err(|_full| TextFault::PastLimit(at))?;
         self.phase = Phase::Wants;
         Ok(())
     }
 
     // ')' behind a term.
     fn close(&mut self, at: At) -> Result<(), TextFault>
-        ensures { (t : Term) (m : Option At) (k : Context) → Holds self.old (has t m k) → Stepped result (closed t k at) self.new }
+        ensures { (t : Term) (m : Option At) (k : Context) → Takes self.old (has t m k) at result (closed t k at) self.new }
     {
-        let Some(frame) = self.frames.pop() else {
-            return Err(TextFault::Unexpected(at));
-        };
+        let frame = self.frames.pop().ok_or(TextFault::Unexpected(at))?;
         if frame.left > 0 {
             return Err(TextFault::WrongArity(frame.at));
         }
-        self.phase = Phase::Has {
+        self.phase = Phase::Has(Whole {
             root: frame.node,
             bare: None,
-        };
+        });
         Ok(())
     }
 
     // ',' behind a term, whose root then has the next node as its sibling.
-    fn proceed(&mut self, root: u16, at: At) -> Result<(), TextFault>
-        ensures { (t : Term) (m : Option At) (k : Context) → Holds self.old (has t m k) → Roomy (has t m k) at.place → root ≡ length (stack_nodes k) → Stepped result (continued t k at) self.new }
+    fn proceed(&mut self, read: Whole, at: At) -> Result<(), TextFault>
+        requires { self.old.phase ≡ Has read }
+        ensures { (t : Term) (k : Context) → Takes self.old (has t read.bare k) at result (continued t k at) self.new }
     {
-        let Some(frame) = self.frames.pop() else {
-            return Err(TextFault::Unexpected(at));
-        };
-        let Some(left) = frame.left.checked_sub(1) else {
-            return Err(TextFault::WrongArity(frame.at));
-        };
+        let frame = self.frames.pop().ok_or(TextFault::Unexpected(at))?;
+        let left = frame
+            .left
+            .checked_sub(1)
+            .ok_or(TextFault::WrongArity(frame.at))?;
         let next = self.nodes.len() as u16;
-        self.nodes.link(root, next);
-        if !self.frames.push(Frame {
-            node: frame.node,
-            at: frame.at,
-            left,
-        }) {
-            return Err(TextFault::PastLimit(at));
-        }
+        self.nodes.link(read.root, next);
+        self.frames
+            .push(Frame { left, ..frame })
+            .map_err(|_full| TextFault::PastLimit(at))?;
         self.phase = Phase::Wants;
         Ok(())
     }
 
-    // Behind a term.
-    fn follow(&mut self, root: u16, bare: Option<At>, token: Token, at: At) -> Result<(), TextFault>
-        ensures { (t : Term) (k : Context) → Holds self.old (has t bare k) → Roomy (has t bare k) at.place → root ≡ length (stack_nodes k) → Stepped result (on_has (meaning token.entry) at t bare k) self.new }
-    {
-        match token {
-            Token::Mark(mark) => self.follow_mark(root, bare, mark, at),
-            _ => Err(fault_of(token, at, TextFault::Unexpected(at))),
-        }
-    }
-
-    fn follow_mark(
-        &mut self,
-        root: u16,
-        bare: Option<At>,
-        mark: Mark,
-        at: At,
-    ) -> Result<(), TextFault>
-        ensures { (t : Term) (k : Context) → Holds self.old (has t bare k) → Roomy (has t bare k) at.place → root ≡ length (stack_nodes k) → Stepped result (on_has_mark mark at t bare k) self.new }
-    {
-        match mark {
-            Mark::Opening => Err(needless_fault(bare, at)),
-            Mark::Closing => self.close(at),
-            Mark::Comma => self.proceed(root, at),
-            _ => Err(TextFault::Unexpected(at)),
-        }
-    }
-
     // One token.
-    pub fn step(&mut self, signature: &Signature, token: Token, at: At) -> Result<(), TextFault>
-        ensures { Moves self.old at.place result (λ s. step (sig_of signature.now) s at (meaning token.entry)) self.new }
+    pub fn step(&mut self, signature: &Signature, lexeme: Lexeme) -> Result<(), TextFault>
+        ensures { Moves self.old lexeme.entry.at result (λ s. step (sig_of signature.now) s lexeme.entry.at (meaning lexeme.entry.token)) self.new }
     {
-        match self.phase {
-            Phase::Wants => self.begin(signature, token, at),
-            Phase::Opens(frame) => self.open(frame, token, at),
-            Phase::Has { root, bare } => self.follow(root, bare, token, at),
+        let Lexeme { token, at } = lexeme;
+        match (self.phase, token) {
+            (Phase::Wants, Token::Name(name)) => self.take_name(signature, name, at),
+            (Phase::Wants, Token::Instrument(part)) => self.take_instrument(signature, part, at),
+            (Phase::Opens(frame), Token::Mark(Mark::Opening)) => self.open(frame, at),
+            (Phase::Opens(frame), _) => Err(lexeme.fault_or(TextFault::WrongArity(frame.at))),
+            (Phase::Has(read), Token::Mark(Mark::Opening)) => Err(needless_fault(read.bare, at)),
+            (Phase::Has(_), Token::Mark(Mark::Closing)) => self.close(at),
+            (Phase::Has(read), Token::Mark(Mark::Comma)) => self.proceed(read, at),
+            _ => Err(lexeme.unexpected()),
         }
     }
 
     // The end of the text.
-    pub fn finish(&mut self, at: At) -> Result<Layout<TICKET_NODES>, TextFault>
-        ensures { (s : State) → Holds self.old s → Finished result (ending s at) }
+    pub fn finish(self, at: At) -> Result<Layout<TICKET_NODES>, TextFault>
+        ensures { (s : State) → Holds self s → Finished result (ending s at) }
     {
         match self.phase {
-            Phase::Wants => Err(TextFault::Unexpected(at)),
+            Phase::Has(_) if self.frames.is_empty() => Ok(self.nodes),
             Phase::Opens(frame) => Err(TextFault::WrongArity(frame.at)),
-            Phase::Has { .. } => match self.frames.pop() {
-                None => Ok(self.nodes),
-                Some(_) => Err(TextFault::Unexpected(at)),
-            },
+            _ => Err(TextFault::Unexpected(at)),
         }
     }
 }

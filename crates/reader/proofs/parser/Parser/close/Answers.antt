@@ -1,6 +1,8 @@
-use Rattle.std.proofs.Common.{arith}
+use Rattle.std.proofs.Common.{arith, ◌≡◌, Some, rules}
 use Rattle.reader.proofs.Parsing.{close_holds}
 use Rattle.reader.proofs.parser.Parser.close.Goals as goal
 
 pub returns : goal.returns
-returns c = λ t m k h. close_holds c.args.self.now c.pop.new.self c.in-Some.frame c.args.at t m k h c.in-Some.ensures (omega arith)
+returns c = λ t m k h r.
+    let popped : c.pop.result ≡ Some c.in_ok-frame.frame = search (rules, c.in_ok-frame.ensures) in
+    close_holds c.args.self.now c.pop.new.self c.in_ok-frame.frame c.args.at t m k h (rw popped at c.pop.ensures.top) (omega arith)

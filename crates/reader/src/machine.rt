@@ -1,0 +1,56 @@
+ghost use Rattle.std.specs.Prelude.{◌≡◌, ℕ, ◌<◌, ◌≤◌, length, IsErrAnd};
+ghost use Rattle.reading.specs.declared.fault.TextFault.TheVariants.{PastLimit};
+ghost use Rattle.reading.specs.Tokens.{origin, past};
+ghost use Rattle.reader.specs.Lexing.{meaning};
+ghost use Rattle.reader.specs.Machine.{Rules, run_by, IsWithin, Steps, Ends};
+
+use crate::token::{Lexeme, Lexer};
+use reading::fault::TextFault;
+use reading::token::At;
+
+// What reads a text token by token. It stands for a state of the definition, from which its rules lead to the next.
+pub trait Machine {
+    type Output;
+
+    type Fault: From<TextFault>;
+
+    ghost State: { Type 0 };
+
+    ghost Value: { Type 0 };
+
+    ghost most_bytes: { ℕ };
+
+    ghost rules: { Self → Rules State Value Self.Fault };
+
+    ghost stands: { Self → State → ℕ → Type 0 };
+
+    ghost gives: { Self.Output → Value → Type 0 };
+
+    // How many bytes the text may have.
+    fn limit(&self) -> usize
+        ensures { result ≡ most_bytes };
+
+    // One token.
+    fn step(&mut self, lexeme: Lexeme) -> Result<(), Self::Fault>
+        ensures kept { rules self.new ≡ rules self.old }
+        ensures next { (s : State) → stands self.old s lexeme.entry.at.place → IsWithin most_bytes lexeme.entry → Steps result ((rules self.old).step s lexeme.entry.at (meaning lexeme.entry.token)) (λ u. stands self.new u (past lexeme.entry.at (meaning lexeme.entry.token)).place) };
+
+    // The end of the text.
+    fn finish(self, at: At) -> Result<Self::Output, Self::Fault>
+        ensures { (s : State) → stands self s at.place → Ends gives result ((rules self).end s at) };
+}
+
+// What a machine reads a text as: what its rules give from its state on, unless the text is too long.
+pub fn read<M: Machine + Drop>(mut machine: M, text: &[u8]) -> Result<M::Output, M::Fault>
+    ensures within { length text.now ≤ M.most_bytes → (s : M.State) → M.stands machine s 0 → Ends M.gives result (run_by (M.rules machine) s text.now) }
+    ensures beyond { M.most_bytes < length text.now → IsErrAnd result (M.Fault.from_gives (PastLimit origin)) }
+{
+    if text.len() > machine.limit() {
+        return Err(TextFault::PastLimit(At::ORIGIN).into());
+    }
+    let mut lexer = Lexer::new(text);
+    while let Some(lexeme) = lexer.next_token() {
+        machine.step(lexeme)?;
+    }
+    machine.finish(lexer.at)
+}
