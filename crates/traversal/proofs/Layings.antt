@@ -1,18 +1,18 @@
 -- The writing of a text, symbol by symbol.
-use Rattle.std.proofs.Common.{◌≡◌, ℕ, suc, ◌+◌, ◌<◌, ◌≤◌, List, [], ◌∷◌, ◌++◌, length, drop, Some, Ok, sym, refl, ap, ◌∙◌, subst, arith}
+use Rattle.std.proofs.Common.{◌≡◌, ℕ, suc, ◌+◌, ◌<◌, ◌≤◌, List, [], ◌∷◌, ◌++◌, length, drop, Some, None, Ok, sym, refl, ap, ◌∙◌, subst, arith}
 use Rattle.std.proofs.lemmas.List.{append_assoc, append-nil}
 use Rattle.terms.specs.Term.{Term, Terms, nil, cons, symbols_in}
 use Rattle.terms.specs.Signature.{Sig}
 use Rattle.terms.specs.Text.{text_of}
 use Rattle.terms.specs.View.{Answers}
-use Rattle.traversal.specs.declared.pending.Lead.TheVariants.{Nothing}
 use Rattle.traversal.specs.declared.pending.Pending.{Pending}
 use Rattle.traversal.specs.Walks.{most_symbols, Counted, Written}
 use Rattle.traversal.specs.Rows.{row_of, StandAll}
-use Rattle.traversal.specs.Bytes.{Lays}
+use Rattle.traversal.specs.declared.write.writer.Writer.{Writer}
+use Rattle.traversal.specs.Bytes.{over, Lays, Puts}
 use Rattle.traversal.specs.Pendings.{places, pending_text, weight, Stepped, Layable, OfSize, SomeOfSize, Laying}
 use Rattle.traversal.proofs.Rows.{under, symbols_under, stands_under, length_le_symbols}
-use Rattle.traversal.proofs.Overlays.{lays_none, lays_both, lays_as, over_front}
+use Rattle.traversal.proofs.Overlays.{puts_none, puts_both, puts_as, over_front}
 use Rattle.traversal.proofs.Texts.{row_le}
 
 -- the stack has room for the arguments of its top term
@@ -30,10 +30,10 @@ room_for v item es (cons t ts) (s, all) few =
     length-places [] = refl
     length-places (e ∷ es) = ap suc (length-places es)
 
-pub laying_start : (sig : Sig) (v : Answers) (p n : ℕ) (stack : List Pending) (old : List ℕ) → stack ≡ record { place = p; lead = Nothing; closings = 0 } ∷ [] → Laying sig v p n 0 stack old old 0
-laying_start sig v p n stack old e = record {
+pub laying_start : (sig : Sig) (v : Answers) (p n : ℕ) (stack : List Pending) (w : Writer) → stack ≡ record { place = p; lead = None; closings = 0 } ∷ [] → w.len ≡ 0 → Laying sig v p n 0 stack w w
+laying_start sig v p n stack w e none = record {
   bytes = [];
-  lays = lays_none old 0;
+  puts = puts_none w;
   rest = λ t h. (
     cons t nil,
     subst (λ l. StandAll v (places l) (cons t nil)) (sym e) (h.0, tt),
@@ -43,10 +43,10 @@ laying_start sig v p n stack old e = record {
   little = omega (arith, ap weight e);
 }
 
-pub laying_again : (sig : Sig) (v : Answers) (p n k : ℕ) (item : Pending) (stack before after : List Pending) (old mid new : List ℕ) (at r : ℕ) → stack ≡ item ∷ before → Laying sig v p n k stack old mid at → Stepped sig v (item ∷ before) after mid at new r → Laying sig v p n (k + 1) after old new r
-laying_again sig v p n k item stack before after old mid new at r e l s = record {
+pub laying_again : (sig : Sig) (v : Answers) (p n k : ℕ) (item : Pending) (stack before after : List Pending) (old mid new : Writer) → stack ≡ item ∷ before → Laying sig v p n k stack old mid → Stepped sig v (item ∷ before) after mid new → Laying sig v p n (k + 1) after old new
+laying_again sig v p n k item stack before after old mid new e l s = record {
   bytes = l.bytes ++ s.bytes;
-  lays = lays_both l.lays s.lays;
+  puts = puts_both l.puts s.puts;
   rest = λ t h.
       let one = l.rest t h in
       let two = s.taken one.0 (subst (λ x. StandAll v (places x) one.0) e one.1) in (
@@ -61,9 +61,9 @@ laying_again sig v p n k item stack before after old mid new at r e l s = record
   little = omega (arith, l.little, s.little, ap weight e);
 }
 
-pub laying_layable : (sig : Sig) (v : Answers) (p n k : ℕ) (item : Pending) (stack before : List Pending) (old new : List ℕ) (at : ℕ) → SomeOfSize v p n → k < n → stack ≡ item ∷ before → Laying sig v p n k stack old new at → Layable v (item ∷ before) at
+pub laying_layable : (sig : Sig) (v : Answers) (p n k : ℕ) (item : Pending) (stack before : List Pending) (old new : Writer) → SomeOfSize v p n → k < n → stack ≡ item ∷ before → Laying sig v p n k stack old new → Layable v (item ∷ before) new.len
 unfolding most_symbols
-laying_layable sig v p n k item stack before old new at some less e l =
+laying_layable sig v p n k item stack before old new some less e l =
     let one = l.rest some.term some.is in
     record {
       terms = one.0;
@@ -77,8 +77,8 @@ none_pending v stack nil e s = refl
 none_pending v stack (cons t ts) e s = absurd (subst (λ x. StandAll v (places x) (cons t ts)) e s)
 
 -- while symbols are left, the stack is not empty
-pub laying_some : (sig : Sig) (v : Answers) (p n k : ℕ) (stack : List Pending) (old new : List ℕ) (at : ℕ) → SomeOfSize v p n → k < n → stack ≡ [] → Laying sig v p n k stack old new at → ⊥
-laying_some sig v p n k stack old new at some less e l =
+pub laying_some : (sig : Sig) (v : Answers) (p n k : ℕ) (stack : List Pending) (old new : Writer) → SomeOfSize v p n → k < n → stack ≡ [] → Laying sig v p n k stack old new → ⊥
+laying_some sig v p n k stack old new some less e l =
     let one = l.rest some.term some.is in
     omega (arith, one.2, none_pending v stack one.0 e one.1)
 
@@ -87,10 +87,17 @@ no_symbols sig v [] us e s = refl
 no_symbols sig v (item ∷ es) nil e s = refl
 no_symbols sig v (item ∷ es) (cons t ts) e s = let one = symbols_under t in absurd (let z : ⊥ = omega arith in z)
 
-pub laying_end : (sig : Sig) (v : Answers) (p n k : ℕ) (stack : List Pending) (old new : List ℕ) (at : ℕ) → n ≤ k → Laying sig v p n k stack old new at → (t : Term) → OfSize v p n t → Lays (text_of sig t) old 0 new at
-laying_end sig v p n k stack old new at all l t h =
+pub laying_end : (sig : Sig) (v : Answers) (p n k : ℕ) (stack : List Pending) (old new : Writer) → n ≤ k → Laying sig v p n k stack old new → (t : Term) → OfSize v p n t → Puts (text_of sig t) old new
+laying_end sig v p n k stack old new all l t h =
     let one = l.rest t h in
-    lays_as (sym (one.3 ∙ ap (λ x. l.bytes ++ x) (no_symbols sig v stack one.0 (omega (arith, one.2)) one.1) ∙ append-nil l.bytes)) l.lays
+    puts_as (sym (one.3 ∙ ap (λ x. l.bytes ++ x) (no_symbols sig v stack one.0 (omega (arith, one.2)) one.1) ∙ append-nil l.bytes)) l.puts
+
+-- what a writer that began with nothing has written
+pub laid : {bytes before after : List ℕ} {u w : Writer} {r : ℕ} → Puts bytes u w → u.buffer.now ≡ before → u.len ≡ 0 → after ≡ w.buffer.now → r ≡ w.len → Lays bytes before 0 after r
+laid {bytes} {before} {u = u} p b none a e = record {
+  buffer = a ∙ p.lays.buffer ∙ ap (λ l. over l u.len bytes) b ∙ ap (λ k. over before k bytes) none;
+  end = omega (arith, p.lays.end);
+}
 
 -- the text at the front of the buffer
 pub written : (sig : Sig) (v : Answers) (p n len r : ℕ) (short before after : List ℕ) → Counted v p (Some n) → ((t : Term) → OfSize v p n t → Lays (text_of sig t) [] 0 short len) → ((t : Term) → OfSize v p n t → Lays (text_of sig t) before 0 after r) → len ≤ length before → Written sig v p before after (Ok len)

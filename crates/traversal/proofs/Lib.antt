@@ -2,6 +2,5 @@ pub mod Rows
 pub mod Visits
 pub mod Counts
 pub mod Overlays
-pub mod Digits
 pub mod Texts
 pub mod Layings

@@ -1,7 +1,8 @@
 -- Bytes written into a buffer, as far as it reaches.
 use Rattle.std.proofs.Common.{◌≡◌, ℕ, suc, ◌+◌, ◌≤◌, List, [], ◌∷◌, ◌++◌, length, drop, set, sym, refl, ap, ◌∙◌, subst, add-zero, arith, length-append}
 use Rattle.std.proofs.lemmas.List.{append_assoc, set_at, length_push}
-use Rattle.traversal.specs.Bytes.{over, Lays}
+use Rattle.traversal.specs.declared.write.writer.Writer.{Writer}
+use Rattle.traversal.specs.Bytes.{over, Lays, Puts}
 
 pub over_append : (b : List ℕ) (i : ℕ) (xs ys : List ℕ) → over b i (xs ++ ys) ≡ over (over b i xs) (i + length xs) ys
 over_append b i [] ys = ap (λ k. over b k ys) (sym (add-zero i))
@@ -37,3 +38,12 @@ over_front b w h = over_behind [] b w 0 refl h
 
 pub lays_as : {xs ys b c : List ℕ} {i r : ℕ} → xs ≡ ys → Lays xs b i c r → Lays ys b i c r
 lays_as {b = b} {c = c} {i = i} {r = r} e p = subst (λ l. Lays l b i c r) e p
+
+pub puts_none : (w : Writer) → Puts [] w w
+puts_none w = record { lays = lays_none w.buffer.now w.len; same_buffer = refl }
+
+pub puts_both : {xs ys : List ℕ} {u v w : Writer} → Puts xs u v → Puts ys v w → Puts (xs ++ ys) u w
+puts_both p q = record { lays = lays_both p.lays q.lays; same_buffer = q.same_buffer ∙ p.same_buffer }
+
+pub puts_as : {xs ys : List ℕ} {u w : Writer} → xs ≡ ys → Puts xs u w → Puts ys u w
+puts_as {u = u} {w = w} e p = subst (λ l. Puts l u w) e p

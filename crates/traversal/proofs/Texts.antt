@@ -7,7 +7,8 @@ use Rattle.terms.specs.Text.{text_of, arguments_text, others_text}
 use Rattle.terms.specs.View.{Answers, Stands, StandFrom}
 use Rattle.traversal.specs.declared.pending.Pending.{Pending}
 use Rattle.traversal.specs.Rows.{ahead, row_from, row_of, StandAll}
-use Rattle.traversal.specs.Bytes.{Lays}
+use Rattle.traversal.specs.declared.write.writer.Writer.{Writer}
+use Rattle.traversal.specs.Bytes.{Puts}
 use Rattle.traversal.specs.Pendings.{lead_text, symbol_text, places, pending_text, weight, others, children, Spread, Taken, Stepped}
 use Rattle.traversal.proofs.Rows.{top, under, both, symbols_under, symbols_both, stands_top, stands_under, from_to_all, join}
 
@@ -120,25 +121,25 @@ taken_bare sig v item es few none (cons t us) (s, all) =
           ∙ sym (append_assoc (head_text sig v item) (replicate c 41) (pending_text sig es us)),
     )
 
-pub stepped_arguments : (sig : Sig) (v : Answers) (item : Pending) (before after : List Pending) (old new : List ℕ) (at r : ℕ) → Lays (head_text sig v item) old at new r → r ≤ at + length (lead_text item.lead) + 12 → Spread item.closings (row_of v item.place) before after true → v.argument item.place 3 ≡ None → Stepped sig v (item ∷ before) after old at new r
-stepped_arguments sig v item before after old new at r lays short (put, some) few =
+pub stepped_arguments : (sig : Sig) (v : Answers) (item : Pending) (before after : List Pending) (old new : Writer) → Puts (head_text sig v item) old new → new.len ≤ old.len + length (lead_text item.lead) + 12 → Spread item.closings (row_of v item.place) before after true → v.argument item.place 3 ≡ None → Stepped sig v (item ∷ before) after old new
+stepped_arguments sig v item before after old new puts short (put, some) few =
     let row = row_of v item.place in
     let three = row_short v item.place 3 0 in
     let all = ap weight put in
     let sum = weight_children item.closings row before some in
     record {
       bytes = head_text sig v item;
-      lays = lays;
+      puts = puts;
       taken = subst (λ l. Taken sig v (head_text sig v item) (item ∷ before) l) (sym put) (taken_arguments sig v item before few some);
       little = omega arith;
     }
 
-pub stepped_bare : (sig : Sig) (v : Answers) (item : Pending) (before after : List Pending) (old new : List ℕ) (at r : ℕ) → Lays (head_text sig v item ++ replicate item.closings 41) old at new r → r ≤ at + length (lead_text item.lead) + 12 + item.closings → Spread item.closings (row_of v item.place) before after false → v.argument item.place 3 ≡ None → Stepped sig v (item ∷ before) after old at new r
-stepped_bare sig v item before after old new at r lays short (same, none) few =
+pub stepped_bare : (sig : Sig) (v : Answers) (item : Pending) (before after : List Pending) (old new : Writer) → Puts (head_text sig v item ++ replicate item.closings 41) old new → new.len ≤ old.len + length (lead_text item.lead) + 12 + item.closings → Spread item.closings (row_of v item.place) before after false → v.argument item.place 3 ≡ None → Stepped sig v (item ∷ before) after old new
+stepped_bare sig v item before after old new puts short (same, none) few =
     let all = ap weight same in
     record {
       bytes = head_text sig v item ++ replicate item.closings 41;
-      lays = lays;
+      puts = puts;
       taken = subst (λ l. Taken sig v (head_text sig v item ++ replicate item.closings 41) (item ∷ before) l) (sym same) (taken_bare sig v item before few none);
       little = omega arith;
     }

@@ -7,16 +7,21 @@ use Rattle.terms.specs.Signature.{Sig, op_of}
 use Rattle.terms.specs.Text.{text_of}
 use Rattle.terms.specs.View.{Answers, Stands}
 use Rattle.traversal.specs.declared.pending.Lead.{Lead}
-use Rattle.traversal.specs.declared.pending.Lead.TheVariants.{Nothing, Opening, Comma}
+use Rattle.traversal.specs.declared.pending.Lead.TheVariants.{Opening, Comma}
 use Rattle.traversal.specs.declared.pending.Pending.{Pending}
 use Rattle.traversal.specs.Walks.{most_symbols}
 use Rattle.traversal.specs.Rows.{StandAll}
-use Rattle.traversal.specs.Bytes.{Lays}
+use Rattle.traversal.specs.declared.write.writer.Writer.{Writer}
+use Rattle.traversal.specs.Bytes.{Puts}
 
-abbrev pub lead_text : Lead → List ℕ
-lead_text Nothing = []
-lead_text Opening = 40 ∷ []
-lead_text Comma = 44 ∷ []
+abbrev pub lead_byte : Lead → ℕ
+lead_byte Opening = 40
+lead_byte Comma = 44
+
+-- what is written before a term
+abbrev pub lead_text : Option Lead → List ℕ
+lead_text None = []
+lead_text (Some l) = lead_byte l ∷ []
 
 -- the text of a symbol without its arguments
 abbrev pub symbol_text : Sig → Option Symbol → List ℕ
@@ -44,14 +49,14 @@ weight (e ∷ es) = length (lead_text e.lead) + e.closings + weight es
 -- the arguments of a symbol behind the first, with so many closing parentheses after the last one's own
 abbrev pub others : ℕ → List ℕ → List Pending
 others c [] = []
-others c (p ∷ []) = record { place = p; lead = Comma; closings = c + 1 } ∷ []
-others c (p ∷ q ∷ ps) = record { place = p; lead = Comma; closings = 0 } ∷ others c (q ∷ ps)
+others c (p ∷ []) = record { place = p; lead = Some Comma; closings = c + 1 } ∷ []
+others c (p ∷ q ∷ ps) = record { place = p; lead = Some Comma; closings = 0 } ∷ others c (q ∷ ps)
 
 -- the arguments of a symbol
 abbrev pub children : ℕ → List ℕ → List Pending
 children c [] = []
-children c (p ∷ []) = record { place = p; lead = Opening; closings = c + 1 } ∷ []
-children c (p ∷ q ∷ ps) = record { place = p; lead = Opening; closings = 0 } ∷ others c (q ∷ ps)
+children c (p ∷ []) = record { place = p; lead = Some Opening; closings = c + 1 } ∷ []
+children c (p ∷ q ∷ ps) = record { place = p; lead = Some Opening; closings = 0 } ∷ others c (q ∷ ps)
 
 -- the arguments are put onto the stack; or there are none
 abbrev pub Spread : ℕ → List ℕ → List Pending → List Pending → Bool → Type 0
@@ -63,11 +68,11 @@ abbrev pub Taken : Sig → Answers → List ℕ → List Pending → List Pendin
 Taken sig v bytes before after = (ts : Terms) → StandAll v (places before) ts → (us : Terms) × StandAll v (places after) us × (symbols_in ts ≡ suc (symbols_in us)) × (pending_text sig before ts ≡ bytes ++ pending_text sig after us)
 
 -- one symbol is written
-pub record Stepped (sig : Sig) (v : Answers) (before after : List Pending) (old : List ℕ) (at : ℕ) (new : List ℕ) (r : ℕ) : Type 0 where
+pub record Stepped (sig : Sig) (v : Answers) (before after : List Pending) (old new : Writer) : Type 0 where
   pub bytes : List ℕ
-  pub lays : Lays bytes old at new r
+  pub puts : Puts bytes old new
   pub taken : Taken sig v bytes before after
-  pub little : r + weight after ≤ at + weight before + 16
+  pub little : new.len + weight after ≤ old.len + weight before + 16
 
 -- pending terms that the stack has room for, and not too much to write: 16 bytes for each of the most symbols are less than this
 pub record Layable (v : Answers) (es : List Pending) (at : ℕ) : Type 0 where
@@ -87,8 +92,8 @@ pub record SomeOfSize (v : Answers) (p n : ℕ) : Type 0 where
   pub few : n ≤ most_symbols
 
 -- k symbols of the term of n symbols are written, with 16 bytes for each at most
-pub record Laying (sig : Sig) (v : Answers) (p n k : ℕ) (stack : List Pending) (old new : List ℕ) (at : ℕ) : Type 0 where
+pub record Laying (sig : Sig) (v : Answers) (p n k : ℕ) (stack : List Pending) (old new : Writer) : Type 0 where
   pub bytes : List ℕ
-  pub lays : Lays bytes old 0 new at
+  pub puts : Puts bytes old new
   pub rest : (t : Term) → OfSize v p n t → (us : Terms) × StandAll v (places stack) us × (k + symbols_in us ≡ n) × (text_of sig t ≡ bytes ++ pending_text sig stack us)
-  pub little : at + weight stack ≤ 16 * k
+  pub little : new.len + weight stack ≤ 16 * k

@@ -12,14 +12,13 @@ use crate::MOST;
 use crate::count::count_symbols;
 use crate::pending::{Lead, Pending};
 use crate::unwritten::Unwritten;
-use bytes::put_closings;
 use signature::Signature;
 use stack::Stack;
-use symbols::{put_lead, put_symbol};
 use terms::view::TermView;
+use writer::Writer;
 
-mod bytes;
 mod symbols;
+mod writer;
 
 // Writes the text of the term at a place to the front of the buffer and answers its length; or nothing is written.
 pub fn write_text<V: TermView>(
@@ -52,17 +51,21 @@ fn lay_text<V: TermView>(
     requires { SomeOfSize (V.answers view.now) place n }
     ensures { (t : Term) → OfSize (V.answers view.now) place n t → Lays (text_of (sig_of signature.now) t) buffer.old 0 buffer.new result }
 {
-    let root = Pending::new(place, Lead::Nothing, 0);
+    let root = Pending {
+        place,
+        lead: None,
+        closings: 0,
+    };
     let mut stack: Stack<Pending, MOST> = Stack::new(root);
     stack.push(root);
-    let mut at = 0;
+    let mut writer = Writer::new(buffer);
     for _k in 0..n {
         let Some(item) = stack.pop() else {
-            return at;
+            unreachable()
         };
-        at = lay_symbol(signature, view, item, &mut stack, buffer, at);
+        lay_symbol(signature, view, item, &mut stack, &mut writer);
     }
-    at
+    writer.len()
 }
 
 // Writes what stands before a term, its symbol and, where it has no arguments, what stands after it; its arguments go onto the stack.
@@ -71,18 +74,15 @@ fn lay_symbol<V: TermView>(
     view: &V,
     item: Pending,
     stack: &mut Stack<Pending, MOST>,
-    buffer: &mut [u8],
-    at: usize,
-) -> usize
-    requires { Layable (V.answers view.now) (item ∷ content stack.old) at }
-    ensures { Stepped (sig_of signature.now) (V.answers view.now) (item ∷ content stack.old) (content stack.new) buffer.old at buffer.new result }
+    writer: &mut Writer<'_>,
+)
+    requires { Layable (V.answers view.now) (item ∷ content stack.old) writer.old.len }
+    ensures { Stepped (sig_of signature.now) (V.answers view.now) (item ∷ content stack.old) (content stack.new) writer.old writer.new }
 {
-    let start = put_lead(buffer, at, item.lead);
-    let end = put_symbol(buffer, start, signature, view.symbol(item.place));
-    if push_arguments(view, item, stack) {
-        end
-    } else {
-        put_closings(buffer, end, item.closings)
+    writer.put_lead(item.lead);
+    writer.put_symbol(signature, view.symbol(item.place));
+    if !push_arguments(view, item, stack) {
+        writer.put_closings(item.closings);
     }
 }
 
@@ -98,16 +98,40 @@ fn push_arguments<V: TermView>(view: &V, item: Pending, stack: &mut Stack<Pendin
         return false;
     };
     let Some(second) = view.argument(item.place, 1) else {
-        stack.push(Pending::new(first, Lead::Opening, closings));
+        stack.push(Pending {
+            place: first,
+            lead: Some(Lead::Opening),
+            closings: closings,
+        });
         return true;
     };
     let Some(third) = view.argument(item.place, 2) else {
-        stack.push(Pending::new(second, Lead::Comma, closings));
-        stack.push(Pending::new(first, Lead::Opening, 0));
+        stack.push(Pending {
+            place: second,
+            lead: Some(Lead::Comma),
+            closings: closings,
+        });
+        stack.push(Pending {
+            place: first,
+            lead: Some(Lead::Opening),
+            closings: 0,
+        });
         return true;
     };
-    stack.push(Pending::new(third, Lead::Comma, closings));
-    stack.push(Pending::new(second, Lead::Comma, 0));
-    stack.push(Pending::new(first, Lead::Opening, 0));
+    stack.push(Pending {
+        place: third,
+        lead: Some(Lead::Comma),
+        closings: closings,
+    });
+    stack.push(Pending {
+        place: second,
+        lead: Some(Lead::Comma),
+        closings: 0,
+    });
+    stack.push(Pending {
+        place: first,
+        lead: Some(Lead::Opening),
+        closings: 0,
+    });
     true
 }

@@ -3,7 +3,7 @@ use lib.ListN.{length-replicate}
 use Rattle.signature.specs.Declaring.{sig_of}
 use Rattle.stack.specs.Stack.{content}
 use Rattle.traversal.specs.Pendings.{symbol_text}
-use Rattle.traversal.proofs.Overlays.{lays_both, lays_as}
+use Rattle.traversal.proofs.Overlays.{puts_both, puts_as}
 use Rattle.traversal.proofs.Texts.{stepped_arguments, stepped_bare}
 use Rattle.traversal.proofs.Layings.{room_for}
 use Rattle.traversal.proofs.write.lay_symbol.Goals as goal
@@ -14,25 +14,21 @@ push_arguments-requires g c = record {
   low = omega (arith, c.requires.low);
 }
 
-pub returns-then-push_arguments : goal.returns-then-push_arguments
-returns-then-push_arguments g c =
-    let sig = sig_of c.args.signature.now in
-    let v = g.V.TermView.answers c.args.view.now in
-    let told = lays_as (ap (symbol_text sig) c.symbol.ensures) c.put_symbol-end.ensures.text in
-    stepped_arguments sig v c.args.item (content c.args.stack.now) (content c.push_arguments.new.stack) c.args.buffer.now c.put_symbol-end.new.buffer c.args.at c.put_symbol-end.result
-    (lays_both c.put_lead-start.ensures told)
-    (omega (arith, c.put_lead-start.ensures.end, c.put_symbol-end.ensures.short))
-    c.if-push_arguments.ensures.row
+pub returns-else-not-push_arguments : goal.returns-else-not-push_arguments
+returns-else-not-push_arguments g c =
+    let told = puts_as (ap (symbol_text (sig_of c.args.signature.now)) c.symbol.ensures) c.put_symbol.ensures.text in
+    stepped_arguments _ _ c.args.item _ _ _ _
+    (puts_both c.put_lead.ensures told)
+    (omega (arith, c.put_lead.ensures.lays.end, c.put_symbol.ensures.short))
+    c.if-not-push_arguments.ensures.row
     c.push_arguments.ensures.few
 
-pub returns-else-push_arguments : goal.returns-else-push_arguments
-returns-else-push_arguments g c =
-    let sig = sig_of c.args.signature.now in
-    let v = g.V.TermView.answers c.args.view.now in
-    let told = lays_as (ap (symbol_text sig) c.symbol.ensures) c.put_symbol-end.ensures.text in
+pub returns-then-not-push_arguments : goal.returns-then-not-push_arguments
+returns-then-not-push_arguments g c =
+    let told = puts_as (ap (symbol_text (sig_of c.args.signature.now)) c.symbol.ensures) c.put_symbol.ensures.text in
     let long = length-replicate {A = ℕ} c.args.item.closings 41 in
-    stepped_bare sig v c.args.item (content c.args.stack.now) (content c.push_arguments.new.stack) c.args.buffer.now c.put_closings.new.buffer c.args.at c.put_closings.result
-    (lays_both (lays_both c.put_lead-start.ensures told) c.put_closings.ensures)
-    (omega (arith, c.put_lead-start.ensures.end, c.put_symbol-end.ensures.short, c.put_closings.ensures.end))
-    c.if-push_arguments.ensures.row
+    stepped_bare _ _ c.args.item _ _ _ _
+    (puts_both (puts_both c.put_lead.ensures told) c.put_closings.ensures)
+    (omega (arith, c.put_lead.ensures.lays.end, c.put_symbol.ensures.short, c.put_closings.ensures.lays.end))
+    c.if-not-push_arguments.ensures.row
     c.push_arguments.ensures.few
