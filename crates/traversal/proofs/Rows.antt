@@ -108,18 +108,3 @@ closed v p f before m is few (ws, s, e) =
 -- where no argument is given, the row is empty
 pub row_none : (v : Answers) (p : ℕ) → v.argument p 0 ≡ None → row_of v p ≡ []
 row_none v p e = ap (λ o. ahead o (row_from v p 1 2)) e
-
-pub row_one : (v : Answers) (p x : ℕ) → Some x ≡ v.argument p 0 → None ≡ v.argument p 1 → row_of v p ≡ x ∷ []
-row_one v p x a b = ap (λ o. ahead o (row_from v p 1 2)) (sym a) ∙ ap (λ o. x ∷ ahead o (row_from v p 2 1)) (sym b)
-
-pub row_two : (v : Answers) (p x y : ℕ) → Some x ≡ v.argument p 0 → Some y ≡ v.argument p 1 → None ≡ v.argument p 2 → row_of v p ≡ x ∷ y ∷ []
-row_two v p x y a b c =
-    ap (λ o. ahead o (row_from v p 1 2)) (sym a)
-    ∙ ap (λ o. x ∷ ahead o (row_from v p 2 1)) (sym b)
-    ∙ ap (λ o. x ∷ y ∷ ahead o []) (sym c)
-
-pub row_three : (v : Answers) (p x y z : ℕ) → Some x ≡ v.argument p 0 → Some y ≡ v.argument p 1 → Some z ≡ v.argument p 2 → row_of v p ≡ x ∷ y ∷ z ∷ []
-row_three v p x y z a b c =
-    ap (λ o. ahead o (row_from v p 1 2)) (sym a)
-    ∙ ap (λ o. x ∷ ahead o (row_from v p 2 1)) (sym b)
-    ∙ ap (λ o. x ∷ y ∷ ahead o []) (sym c)

@@ -1,15 +1,16 @@
 -- The texts of pending terms.
-use Rattle.std.proofs.Common.{◌≡◌, ℕ, zero, suc, ◌+◌, ◌≤◌, true, false, List, [], ◌∷◌, ◌++◌, length, replicate, Some, None, Option, sym, refl, ap, ◌∙◌, subst, add-one, arith}
+use Rattle.std.proofs.Common.{◌≡◌, ℕ, zero, suc, ◌+◌, ◌<◌, ◌≤◌, List, [], ◌∷◌, ◌++◌, length, replicate, Some, None, Option, sym, refl, ap, ◌∙◌, subst, add-one, arith}
 use Rattle.std.proofs.lemmas.List.{append_assoc, append-nil}
 use Rattle.terms.specs.Term.{Term, variable, instrument, apply, Terms, nil, cons, symbols, symbols_in}
 use Rattle.terms.specs.Signature.{Sig}
 use Rattle.terms.specs.Text.{text_of, arguments_text, others_text}
 use Rattle.terms.specs.View.{Answers, Stands, StandFrom}
+use Rattle.traversal.specs.declared.pending.Lead.TheVariants.{Opening, Comma}
 use Rattle.traversal.specs.declared.pending.Pending.{Pending}
 use Rattle.traversal.specs.Rows.{ahead, row_from, row_of, StandAll}
 use Rattle.traversal.specs.declared.write.writer.Writer.{Writer}
 use Rattle.traversal.specs.Bytes.{Puts}
-use Rattle.traversal.specs.Pendings.{lead_text, symbol_text, places, pending_text, weight, others, children, Spread, Taken, Stepped}
+use Rattle.traversal.specs.Pendings.{lead_text, symbol_text, places, pending_text, weight, others, children, Taken, Stepped}
 use Rattle.traversal.proofs.Rows.{top, under, both, symbols_under, symbols_both, stands_top, stands_under, from_to_all, join}
 
 text_under : (sig : Sig) (t : Term) → text_of sig t ≡ symbol_text sig (Some (top t)) ++ arguments_text sig (under t)
@@ -45,11 +46,11 @@ places_children c [] es = refl
 places_children c (p ∷ []) es = refl
 places_children c (p ∷ q ∷ ps) es = ap (λ l. p ∷ l) (places_others c (q ∷ ps) es)
 
-weight_others : (c p : ℕ) (ps : List ℕ) (es : List Pending) → weight (others c (p ∷ ps) ++ es) ≡ length (p ∷ ps) + (c + 1) + weight es
+weight_others : (c p : ℕ) (ps : List ℕ) (es : List Pending) → weight (others c (p ∷ ps) ++ es) ≡ length (p ∷ ps) + c + weight es
 weight_others c p [] es = omega arith
 weight_others c p (q ∷ ps) es = let ih = weight_others c q ps es in omega arith
 
-weight_children : (c : ℕ) (ps : List ℕ) (es : List Pending) → 1 ≤ length ps → weight (children c ps ++ es) ≡ length ps + (c + 1) + weight es
+weight_children : (c : ℕ) (ps : List ℕ) (es : List Pending) → 1 ≤ length ps → weight (children c ps ++ es) ≡ length ps + c + weight es
 weight_children c [] es some = absurd (let z : ⊥ = omega arith in z)
 weight_children c (p ∷ []) es some = omega arith
 weight_children c (p ∷ q ∷ ps) es some = let ih = weight_others c q ps es in omega arith
@@ -58,7 +59,7 @@ weight_children c (p ∷ q ∷ ps) es some = let ih = weight_others c q ps es in
 closing_more : (c : ℕ) (x rest : List ℕ) → x ++ (replicate (c + 1) 41 ++ rest) ≡ (x ++ 41 ∷ []) ++ (replicate c 41 ++ rest)
 closing_more c x rest = ap (λ k. x ++ (replicate k 41 ++ rest)) (add-one c) ∙ sym (append_assoc x (41 ∷ []) (replicate c 41 ++ rest))
 
-text_others : (sig : Sig) (v : Answers) (c p : ℕ) (ps : List ℕ) (es : List Pending) (t : Term) (ts us : Terms) → StandAll v ps ts → pending_text sig (others c (p ∷ ps) ++ es) (cons t (both ts us)) ≡ others_text sig (cons t ts) ++ (replicate c 41 ++ pending_text sig es us)
+text_others : (sig : Sig) (v : Answers) (c p : ℕ) (ps : List ℕ) (es : List Pending) (t : Term) (ts us : Terms) → StandAll v ps ts → pending_text sig (others (c + 1) (p ∷ ps) ++ es) (cons t (both ts us)) ≡ others_text sig (cons t ts) ++ (replicate c 41 ++ pending_text sig es us)
 text_others sig v c p [] es t nil us s = ap (λ l. 44 ∷ l) (closing_more c (text_of sig t) (pending_text sig es us))
 text_others sig v c p [] es t (cons u ts) us s = absurd s
 text_others sig v c p (q ∷ ps) es t nil us s = absurd s
@@ -66,7 +67,7 @@ text_others sig v c p (q ∷ ps) es t (cons u ts) us s =
     ap (λ l. 44 ∷ (text_of sig t ++ l)) (text_others sig v c q ps es u ts us s.1)
     ∙ ap (λ l. 44 ∷ l) (sym (append_assoc (text_of sig t) (others_text sig (cons u ts)) (replicate c 41 ++ pending_text sig es us)))
 
-text_children : (sig : Sig) (v : Answers) (c : ℕ) (ps : List ℕ) (es : List Pending) (ts us : Terms) → 1 ≤ length ps → StandAll v ps ts → pending_text sig (children c ps ++ es) (both ts us) ≡ arguments_text sig ts ++ (replicate c 41 ++ pending_text sig es us)
+text_children : (sig : Sig) (v : Answers) (c : ℕ) (ps : List ℕ) (es : List Pending) (ts us : Terms) → 1 ≤ length ps → StandAll v ps ts → pending_text sig (children (c + 1) ps ++ es) (both ts us) ≡ arguments_text sig ts ++ (replicate c 41 ++ pending_text sig es us)
 text_children sig v c [] es ts us some s = absurd (let z : ⊥ = omega arith in z)
 text_children sig v c (p ∷ ps) es nil us some s = absurd s
 text_children sig v c (p ∷ []) es (cons t nil) us some s = ap (λ l. 40 ∷ l) (closing_more c (text_of sig t) (pending_text sig es us))
@@ -91,7 +92,7 @@ no_arguments_text sig v row (cons t ts) e s = absurd (subst (λ l. StandAll v l 
 abbrev head_text : Sig → Answers → Pending → List ℕ
 head_text sig v item = lead_text item.lead ++ symbol_text sig (v.symbol item.place)
 
-taken_arguments : (sig : Sig) (v : Answers) (item : Pending) (es : List Pending) → v.argument item.place 3 ≡ None → 1 ≤ length (row_of v item.place) → Taken sig v (head_text sig v item) (item ∷ es) (children item.closings (row_of v item.place) ++ es)
+taken_arguments : (sig : Sig) (v : Answers) (item : Pending) (es : List Pending) → v.argument item.place 3 ≡ None → 1 ≤ length (row_of v item.place) → Taken sig v (head_text sig v item) (item ∷ es) (children (item.closings + 1) (row_of v item.place) ++ es)
 taken_arguments sig v item es few some nil s = absurd s
 taken_arguments sig v item es few some (cons t us) (s, all) =
     let row = row_of v item.place in
@@ -100,7 +101,7 @@ taken_arguments sig v item es few some (cons t us) (s, all) =
     let one = symbols_under t in
     let sum = symbols_both (under t) us in (
       both (under t) us,
-      subst (λ l. StandAll v l (both (under t) us)) (sym (places_children c row es)) (join v row (places es) (under t) us under_all all),
+      subst (λ l. StandAll v l (both (under t) us)) (sym (places_children (c + 1) row es)) (join v row (places es) (under t) us under_all all),
       omega arith,
       opened_text sig v item.place t (lead_text item.lead) (replicate c 41 ++ pending_text sig es us) s
           ∙ ap (λ l. head_text sig v item ++ l) (sym (text_children sig v c row es (under t) us some under_all)),
@@ -121,12 +122,12 @@ taken_bare sig v item es few none (cons t us) (s, all) =
           ∙ sym (append_assoc (head_text sig v item) (replicate c 41) (pending_text sig es us)),
     )
 
-pub stepped_arguments : (sig : Sig) (v : Answers) (item : Pending) (before after : List Pending) (old new : Writer) → Puts (head_text sig v item) old new → new.len ≤ old.len + length (lead_text item.lead) + 12 → Spread item.closings (row_of v item.place) before after true → v.argument item.place 3 ≡ None → Stepped sig v (item ∷ before) after old new
-stepped_arguments sig v item before after old new puts short (put, some) few =
+pub stepped_arguments : (sig : Sig) (v : Answers) (item : Pending) (before after : List Pending) (old new : Writer) → Puts (head_text sig v item) old new → new.len ≤ old.len + length (lead_text item.lead) + 12 → 1 ≤ length (row_of v item.place) → after ≡ children (item.closings + 1) (row_of v item.place) ++ before → v.argument item.place 3 ≡ None → Stepped sig v (item ∷ before) after old new
+stepped_arguments sig v item before after old new puts short some put few =
     let row = row_of v item.place in
     let three = row_short v item.place 3 0 in
     let all = ap weight put in
-    let sum = weight_children item.closings row before some in
+    let sum = weight_children (item.closings + 1) row before some in
     record {
       bytes = head_text sig v item;
       puts = puts;
@@ -134,12 +135,27 @@ stepped_arguments sig v item before after old new puts short (put, some) few =
       little = omega arith;
     }
 
-pub stepped_bare : (sig : Sig) (v : Answers) (item : Pending) (before after : List Pending) (old new : Writer) → Puts (head_text sig v item ++ replicate item.closings 41) old new → new.len ≤ old.len + length (lead_text item.lead) + 12 + item.closings → Spread item.closings (row_of v item.place) before after false → v.argument item.place 3 ≡ None → Stepped sig v (item ∷ before) after old new
-stepped_bare sig v item before after old new puts short (same, none) few =
-    let all = ap weight same in
-    record {
-      bytes = head_text sig v item ++ replicate item.closings 41;
-      puts = puts;
-      taken = subst (λ l. Taken sig v (head_text sig v item ++ replicate item.closings 41) (item ∷ before) l) (sym same) (taken_bare sig v item before few none);
-      little = omega arith;
-    }
+pub stepped_bare : (sig : Sig) (v : Answers) (item : Pending) (before : List Pending) (old new : Writer) → Puts (head_text sig v item ++ replicate item.closings 41) old new → new.len ≤ old.len + length (lead_text item.lead) + 12 + item.closings → row_of v item.place ≡ [] → v.argument item.place 3 ≡ None → Stepped sig v (item ∷ before) before old new
+stepped_bare sig v item before old new puts short none few = record {
+  bytes = head_text sig v item ++ replicate item.closings 41;
+  puts = puts;
+  taken = taken_bare sig v item before few none;
+  little = omega arith;
+}
+
+-- the last of a row is the first to be put onto the stack
+others_last : (c p q : ℕ) (ps : List ℕ) (es : List Pending) → others c (q ∷ (ps ++ p ∷ [])) ++ es ≡ others 0 (q ∷ ps) ++ record { place = p; lead = Some Comma; closings = c } ∷ es
+others_last c p q [] es = refl
+others_last c p q (r ∷ ps) es = ap (λ l. record { place = q; lead = Some Comma; closings = 0 } ∷ l) (others_last c p r ps es)
+
+next_last : (c p q : ℕ) (ps : List ℕ) (es : List Pending) → children c (q ∷ (ps ++ p ∷ [])) ++ es ≡ children 0 (q ∷ ps) ++ record { place = p; lead = Some Comma; closings = c } ∷ es
+next_last c p q [] es = refl
+next_last c p q (r ∷ ps) es = ap (λ l. record { place = q; lead = Some Opening; closings = 0 } ∷ l) (others_last c p r ps es)
+
+pub children_first : (c p : ℕ) (row ps : List ℕ) (es : List Pending) → row ≡ ps ++ p ∷ [] → length ps ≡ 0 → children c row ++ es ≡ children 0 ps ++ record { place = p; lead = Some Opening; closings = c } ∷ es
+children_first c p row [] es e none = ap (λ l. children c l ++ es) e
+children_first c p row (q ∷ ps) es e none = absurd (let z : ⊥ = omega arith in z)
+
+pub children_next : (c p : ℕ) (row ps : List ℕ) (es : List Pending) → row ≡ ps ++ p ∷ [] → 0 < length ps → children c row ++ es ≡ children 0 ps ++ record { place = p; lead = Some Comma; closings = c } ∷ es
+children_next c p row [] es e some = absurd (let z : ⊥ = omega arith in z)
+children_next c p row (q ∷ ps) es e some = ap (λ l. children c l ++ es) e ∙ next_last c p q ps es

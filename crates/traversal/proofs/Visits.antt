@@ -1,40 +1,30 @@
 -- What one visit of the count does.
-use Rattle.std.proofs.Common.{◌≡◌, ℕ, ◌+◌, ◌<◌, ◌≤◌, Bool, true, false, not, ◌⊎◌, List, ◌∷◌, ◌++◌, length, is_some, Some, None, Option, sym, refl, ap, ◌∙◌, subst, inl, inr, arith, length-append}
-use Rattle.std.proofs.lemmas.Bool.{true≢false, false≢true}
+use Rattle.std.proofs.Common.{◌≡◌, ℕ, ◌+◌, ◌<◌, ◌≤◌, ◌⊎◌, List, [], ◌∷◌, ◌++◌, length, Some, None, Option, Ok, Err, Result, sym, refl, ap, ◌∙◌, subst, inl, inr, arith, length-append}
 use Rattle.terms.specs.declared.symbol.Symbol.{Symbol}
 use Rattle.terms.specs.declared.symbol.Symbol.TheVariants.{Vacant, Variable, Instrument, Operator}
 use Rattle.terms.specs.Term.{Term, variable, instrument, apply, nil, cons, symbols}
 use Rattle.terms.specs.View.{Answers, Stands}
 use Rattle.traversal.specs.Walks.{most_symbols}
-use Rattle.stack.specs.Stack.{Added}
+use Rattle.std.specs.Result.{IsErr, result_ok}
+use Rattle.fixed_vec.specs.declared.Full.{Full}
 use Rattle.traversal.specs.Rows.{row_of, Many, PutBefore, Visited}
 use Rattle.traversal.proofs.Rows.{never, top, stands_top, length_le_symbols, opened, closed, row_none}
 
 -- no room for the rest of a row
-pub no_room : (row rest before mid : List ℕ) → length rest < length row → mid ≡ rest ++ before → 16384 ≤ length mid → most_symbols < length row + length before
+pub refused : (r : Result (Unit {0}) Full) (row rest left mid before after : List ℕ) (x : ℕ) → IsErr r → left ≡ rest ++ x ∷ [] → left ++ mid ≡ row ++ before → 16384 ≤ length mid → PutBefore row before after r
 unfolding most_symbols
-no_room row rest before mid less e full =
+refused (Ok u) row rest left mid before after x is last e full = cc
+refused (Err u) row rest left mid before after x is last e full =
     let long = ap length e in
-    let sum = length-append rest before in
-    omega arith
+    let one = ap length last in
+    omega (arith, length-append left mid, length-append rest (x ∷ []), length-append row before)
 
--- the first of a row is the last to be put
-pub put_first : (r : Bool) (row rest before mid after : List ℕ) (x : ℕ) → row ≡ x ∷ rest → mid ≡ rest ++ before → Added 16384 mid x after r → PutBefore row before after r
-put_first true row rest before mid after x e h a = a ∙ ap (λ l. x ∷ l) h ∙ ap (λ l. l ++ before) (sym e)
-put_first false row rest before mid after x e h a =
-    let long = ap length e in
-    no_room row rest before mid (omega arith) h a.1
-
-pub put_short : (r : Bool) (row rest before mid after : List ℕ) → r ≡ false → length rest < length row → mid ≡ rest ++ before → 16384 ≤ length mid → PutBefore row before after r
-put_short true row rest before mid after no_true less e full = absurd (true≢false no_true)
-put_short false row rest before mid after is less e full = no_room row rest before mid less e full
-
-pub visited_operator : (r : Bool) (v : Answers) (p f : ℕ) (before after : List ℕ) → v.symbol p ≡ Some (Operator f) → v.argument p 3 ≡ None → PutBefore (row_of v p) before after r → Visited v (p ∷ before) after r
-visited_operator true v p f before after is few put = (
+pub visited_operator : (r : Result (Unit {0}) Full) (v : Answers) (p f : ℕ) (before after : List ℕ) → v.symbol p ≡ Some (Operator f) → v.argument p 3 ≡ None → PutBefore (row_of v p) before after r → Visited v (p ∷ before) after (result_ok r)
+visited_operator (Ok u) v p f before after is few put = (
   λ m s. closed v p f before m is few (subst (λ l. Many v l m) put s),
   λ m s. let o = opened v p before m few s in (o.0, o.1, subst (λ l. Many v l o.0) (sym put) o.2),
 )
-visited_operator false v p f before after is few put = λ m s.
+visited_operator (Err e) v p f before after is few put = λ m s.
     let o = opened v p before m few s in
     let less = length_le_symbols v (row_of v p ++ before) o.2.0 o.2.1 in
     let long = length-append (row_of v p) before in
@@ -70,13 +60,12 @@ bare_arguments v p q s is b e (variable x) (h, a) = never (v.argument p 0) q a e
 bare_arguments v p q s is b e (instrument n) (h, a) = never (v.argument p 0) q a e
 bare_arguments v p q s is b e (apply f ts) (h, a) = bare_operator s f b (cc)
 
-pub visited_bare : (r : Bool) (o : Option ℕ) (v : Answers) (p : ℕ) (s : Symbol) (before : List ℕ) → v.symbol p ≡ Some s → Bare s → v.argument p 3 ≡ None → o ≡ v.argument p 0 → is_some o ≡ not r → Visited v (p ∷ before) before r
-visited_bare true None v p s before is b few at e =
-    let none = sym at in
+pub visited_bare : (v : Answers) (p : ℕ) (s : Symbol) (before : List ℕ) → v.symbol p ≡ Some s → Bare s → v.argument p 3 ≡ None → v.argument p 0 ≡ None → Visited v (p ∷ before) before (Some tt)
+visited_bare v p s before is b few none =
     let t = bare_term v p s is b none in (
       λ m r. (cons t.0 r.0, (t.1, r.1), omega (arith, r.2, t.2)),
       λ m r. let o = opened v p before m few r in (o.0, o.1, subst (λ l. Many v (l ++ before) o.0) (row_none v p none) o.2),
     )
-visited_bare false None v p s before is b few none e = absurd (false≢true e)
-visited_bare true (Some q) v p s before is b few some e = absurd (true≢false e)
-visited_bare false (Some q) v p s before is b few some e = visited_none v p before (bare_arguments v p q s is b (sym some))
+
+pub visited_arguments : (v : Answers) (p q : ℕ) (s : Symbol) (before : List ℕ) → v.symbol p ≡ Some s → Bare s → v.argument p 0 ≡ Some q → (m : ℕ) → Many v (p ∷ before) m → most_symbols < m
+visited_arguments v p q s before is b some = visited_none v p before (bare_arguments v p q s is b some)

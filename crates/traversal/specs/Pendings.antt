@@ -1,5 +1,5 @@
 -- The texts of terms that are still to be written.
-use Rattle.std.specs.Prelude.{◌≡◌, ℕ, suc, ◌+◌, ◌*◌, ◌%◌, ◌≤◌, Bool, true, false, List, [], ◌∷◌, ◌++◌, length, replicate, Some, None, decimal, Option}
+use Rattle.std.specs.Prelude.{◌≡◌, ℕ, suc, ◌+◌, ◌*◌, ◌%◌, ◌≤◌, List, [], ◌∷◌, ◌++◌, length, replicate, Some, None, decimal, Option}
 use Rattle.terms.specs.declared.symbol.Symbol.{Symbol}
 use Rattle.terms.specs.declared.symbol.Symbol.TheVariants.{Vacant, Variable, Instrument, Operator}
 use Rattle.terms.specs.Term.{Term, Terms, nil, cons, symbols, symbols_in}
@@ -46,22 +46,17 @@ abbrev pub weight : List Pending → ℕ
 weight [] = 0
 weight (e ∷ es) = length (lead_text e.lead) + e.closings + weight es
 
--- the arguments of a symbol behind the first, with so many closing parentheses after the last one's own
+-- the arguments of a symbol behind the first, with so many closing parentheses after the last
 abbrev pub others : ℕ → List ℕ → List Pending
 others c [] = []
-others c (p ∷ []) = record { place = p; lead = Some Comma; closings = c + 1 } ∷ []
+others c (p ∷ []) = record { place = p; lead = Some Comma; closings = c } ∷ []
 others c (p ∷ q ∷ ps) = record { place = p; lead = Some Comma; closings = 0 } ∷ others c (q ∷ ps)
 
--- the arguments of a symbol
+-- the arguments of a symbol, with so many closing parentheses after the last
 abbrev pub children : ℕ → List ℕ → List Pending
 children c [] = []
-children c (p ∷ []) = record { place = p; lead = Some Opening; closings = c + 1 } ∷ []
+children c (p ∷ []) = record { place = p; lead = Some Opening; closings = c } ∷ []
 children c (p ∷ q ∷ ps) = record { place = p; lead = Some Opening; closings = 0 } ∷ others c (q ∷ ps)
-
--- the arguments are put onto the stack; or there are none
-abbrev pub Spread : ℕ → List ℕ → List Pending → List Pending → Bool → Type 0
-Spread c row before after true = (after ≡ children c row ++ before) × (1 ≤ length row)
-Spread c row before after false = (after ≡ before) × (row ≡ [])
 
 -- writing these bytes takes one symbol from the pending terms
 abbrev pub Taken : Sig → Answers → List ℕ → List Pending → List Pending → Type 0

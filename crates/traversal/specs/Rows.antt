@@ -1,5 +1,6 @@
 -- Terms at the places of a stack, and what a visit to the top one does.
-use Rattle.std.specs.Prelude.{◌≡◌, ℕ, zero, suc, ◌+◌, ◌<◌, Bool, true, false, List, [], ◌∷◌, ◌++◌, length, Some, None, Option}
+use Rattle.std.specs.Prelude.{◌≡◌, ℕ, zero, suc, ◌+◌, ◌<◌, List, [], ◌∷◌, ◌++◌, length, Some, None, Option, Ok, Err, Result}
+use Rattle.fixed_vec.specs.declared.Full.{Full}
 use Rattle.terms.specs.Term.{Terms, nil, cons, symbols_in}
 use Rattle.terms.specs.View.{Answers, Stands}
 use Rattle.traversal.specs.Walks.{most_symbols}
@@ -30,11 +31,11 @@ abbrev pub Many : Answers → List ℕ → ℕ → Type 0
 Many v ps m = (ts : Terms) × StandAll v ps ts × (symbols_in ts ≡ m)
 
 -- the row is put before what was there; or there is no room for it
-abbrev pub PutBefore : List ℕ → List ℕ → List ℕ → Bool → Type 0
-PutBefore row before after true = after ≡ row ++ before
-PutBefore row before after false = most_symbols < length row + length before
+abbrev pub PutBefore : List ℕ → List ℕ → List ℕ → Result (Unit {0}) Full → Type 0
+PutBefore row before after (Ok u) = after ≡ row ++ before
+PutBefore row before after (Err e) = most_symbols < length row + length before
 
 -- one symbol is taken from the terms at the places; or no terms of at most the most symbols stand there
-abbrev pub Visited : Answers → List ℕ → List ℕ → Bool → Type 0
-Visited v before after true = ((m : ℕ) → Many v after m → Many v before (suc m)) × ((m : ℕ) → Many v before m → (k : ℕ) × (m ≡ suc k) × Many v after k)
-Visited v before after false = (m : ℕ) → Many v before m → most_symbols < m
+abbrev pub Visited : Answers → List ℕ → List ℕ → Option (Unit {0}) → Type 0
+Visited v before after (Some u) = ((m : ℕ) → Many v after m → Many v before (suc m)) × ((m : ℕ) → Many v before m → (k : ℕ) × (m ≡ suc k) × Many v after k)
+Visited v before after None = (m : ℕ) → Many v before m → most_symbols < m

@@ -1,10 +1,11 @@
-ghost use Rattle.std.specs.Prelude.{◌≡◌, ◌∷◌, Some, None};
+ghost use Rattle.std.specs.Prelude.{◌≡◌, ◌∷◌, None};
+ghost use Rattle.fixed_vec.specs.FixedVec.{content};
 ghost use Rattle.traversal.specs.Walks.{Counted};
-ghost use Rattle.stack.specs.Stack.{content};
 ghost use Rattle.traversal.specs.Rows.{row_of, PutBefore, Visited};
 
 use crate::MOST;
-use stack::Stack;
+use crate::row::arguments;
+use fixed_vec::{FixedVec, Full};
 use terms::symbol::Symbol;
 use terms::view::TermView;
 
@@ -12,48 +13,43 @@ use terms::view::TermView;
 pub fn count_symbols<V: TermView>(view: &V, place: u16) -> Option<usize>
     ensures { Counted (V.answers view.now) place result }
 {
-    let mut stack: Stack<u16, MOST> = Stack::new(place);
-    stack.push(place);
-    let mut n = 0;
-    while let Some(top) = stack.pop() {
-        if n >= MOST || !visit(view, top, &mut stack) {
-            return None;
-        }
-        n += 1;
+    let mut stack: FixedVec<u16, MOST> = FixedVec::new(place);
+    stack.push(place).ok()?;
+    for n in 0..=MOST {
+        let Some(top) = stack.pop() else {
+            return Some(n);
+        };
+        visit(view, top, &mut stack)?;
     }
-    Some(n)
+    None
 }
 
-// Puts the places of the arguments of a symbol onto the stack; says no where it cannot be the symbol of a term, or there is no room.
-fn visit<V: TermView>(view: &V, place: u16, stack: &mut Stack<u16, MOST>) -> bool
+// Puts the places of the arguments of a symbol onto the stack; nothing where it cannot be the symbol of a term, or there is no room.
+fn visit<V: TermView>(view: &V, place: u16, stack: &mut FixedVec<u16, MOST>) -> Option<()>
     ensures { Visited (V.answers view.now) (place ∷ content stack.old) (content stack.new) result }
 {
-    let Some(symbol) = view.symbol(place) else {
-        return false;
-    };
-    match symbol {
-        Symbol::Vacant => false,
-        Symbol::Variable(_) | Symbol::Instrument(_) => view.argument(place, 0).is_none(),
-        Symbol::Operator(_) => push_arguments(view, place, stack),
+    match view.symbol(place)? {
+        Symbol::Vacant => None,
+        Symbol::Variable(_) | Symbol::Instrument(_) => match view.argument(place, 0) {
+            Some(_) => None,
+            None => Some(()),
+        },
+        Symbol::Operator(_) => push_arguments(view, place, stack).ok(),
     }
 }
 
-// Puts the places of the arguments of a place onto the stack, the first on top, and says whether there was room.
-fn push_arguments<V: TermView>(view: &V, place: u16, stack: &mut Stack<u16, MOST>) -> bool
+// Puts the places of the arguments of a place onto the stack, the first on top.
+fn push_arguments<V: TermView>(
+    view: &V,
+    place: u16,
+    stack: &mut FixedVec<u16, MOST>,
+) -> Result<(), Full>
     ensures row { PutBefore (row_of (V.answers view.now) place) (content stack.old) (content stack.new) result }
     ensures few { (V.answers view.now).argument place 3 ≡ None }
 {
-    let Some(first) = view.argument(place, 0) else {
-        return true;
-    };
-    let Some(second) = view.argument(place, 1) else {
-        return stack.push(first);
-    };
-    let Some(third) = view.argument(place, 2) else {
-        return stack.push(second) && stack.push(first);
-    };
-    if !stack.push(third) {
-        return false;
+    let mut row = arguments(view, place);
+    while let Some(argument) = row.pop() {
+        stack.push(argument)?;
     }
-    stack.push(second) && stack.push(first)
+    Ok(())
 }

@@ -3,6 +3,7 @@
 
 pub mod count;
 mod pending;
+mod row;
 pub mod unwritten;
 pub mod write;
 

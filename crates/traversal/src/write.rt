@@ -1,19 +1,19 @@
-ghost use Rattle.std.specs.Prelude.{◌≡◌, ◌+◌, ◌^◌, ◌<◌, ◌≤◌, [], ◌∷◌, length, Some, None};
+ghost use Rattle.std.specs.Prelude.{◌≡◌, ◌+◌, ◌^◌, ◌<◌, ◌≤◌, ◌∷◌, ◌++◌, length};
 ghost use Rattle.terms.specs.Term.{Term};
 ghost use Rattle.terms.specs.Text.{text_of};
 ghost use Rattle.signature.specs.Declaring.{sig_of};
 ghost use Rattle.traversal.specs.Walks.{Written};
-ghost use Rattle.stack.specs.Stack.{content};
-ghost use Rattle.traversal.specs.Rows.{row_of};
+ghost use Rattle.fixed_vec.specs.FixedVec.{items, content};
 ghost use Rattle.traversal.specs.Bytes.{Lays};
-ghost use Rattle.traversal.specs.Pendings.{Spread, Layable, Stepped, OfSize, SomeOfSize};
+ghost use Rattle.traversal.specs.Pendings.{children, Layable, Stepped, OfSize, SomeOfSize};
 
 use crate::MOST;
 use crate::count::count_symbols;
 use crate::pending::{Lead, Pending};
+use crate::row::arguments;
 use crate::unwritten::Unwritten;
+use fixed_vec::FixedVec;
 use signature::Signature;
-use stack::Stack;
 use terms::view::TermView;
 use writer::Writer;
 
@@ -56,8 +56,10 @@ fn lay_text<V: TermView>(
         lead: None,
         closings: 0,
     };
-    let mut stack: Stack<Pending, MOST> = Stack::new(root);
-    stack.push(root);
+    let mut stack: FixedVec<Pending, MOST> = FixedVec::new(root);
+    let Ok(()) = stack.push(root) else {
+        unreachable()
+    };
     let mut writer = Writer::new(buffer);
     for _k in 0..n {
         let Some(item) = stack.pop() else {
@@ -73,7 +75,7 @@ fn lay_symbol<V: TermView>(
     signature: &Signature,
     view: &V,
     item: Pending,
-    stack: &mut Stack<Pending, MOST>,
+    stack: &mut FixedVec<Pending, MOST>,
     writer: &mut Writer<'_>,
 )
     requires { Layable (V.answers view.now) (item ∷ content stack.old) writer.old.len }
@@ -81,57 +83,34 @@ fn lay_symbol<V: TermView>(
 {
     writer.put_lead(item.lead);
     writer.put_symbol(signature, view.symbol(item.place));
-    if !push_arguments(view, item, stack) {
+    let row = arguments(view, item.place);
+    if row.is_empty() {
         writer.put_closings(item.closings);
+    } else {
+        push_arguments(row, item.closings + 1, stack);
     }
 }
 
-// Puts the arguments of a term onto the stack, the first on top, and says whether there are any.
-fn push_arguments<V: TermView>(view: &V, item: Pending, stack: &mut Stack<Pending, MOST>) -> bool
-    requires room { length (row_of (V.answers view.now) item.place) + length (content stack.old) ≤ 16384 }
-    requires low { item.closings < 2 ^ 31 }
-    ensures row { Spread item.closings (row_of (V.answers view.now) item.place) (content stack.old) (content stack.new) result }
-    ensures few { (V.answers view.now).argument item.place 3 ≡ None }
+// Puts arguments onto the stack, the first on top, with so many closing parentheses after the last.
+fn push_arguments(mut row: FixedVec<u16, 3>, closings: u32, stack: &mut FixedVec<Pending, MOST>)
+    requires { length (items row) + length (content stack.old) ≤ 16384 }
+    ensures { content stack.new ≡ children closings (items row) ++ content stack.old }
 {
-    let closings = item.closings + 1;
-    let Some(first) = view.argument(item.place, 0) else {
-        return false;
-    };
-    let Some(second) = view.argument(item.place, 1) else {
-        stack.push(Pending {
-            place: first,
-            lead: Some(Lead::Opening),
-            closings: closings,
-        });
-        return true;
-    };
-    let Some(third) = view.argument(item.place, 2) else {
-        stack.push(Pending {
-            place: second,
-            lead: Some(Lead::Comma),
-            closings: closings,
-        });
-        stack.push(Pending {
-            place: first,
-            lead: Some(Lead::Opening),
-            closings: 0,
-        });
-        return true;
-    };
-    stack.push(Pending {
-        place: third,
-        lead: Some(Lead::Comma),
-        closings: closings,
-    });
-    stack.push(Pending {
-        place: second,
-        lead: Some(Lead::Comma),
-        closings: 0,
-    });
-    stack.push(Pending {
-        place: first,
-        lead: Some(Lead::Opening),
-        closings: 0,
-    });
-    true
+    let mut after = closings;
+    while let Some(place) = row.pop() {
+        let lead = if row.is_empty() {
+            Lead::Opening
+        } else {
+            Lead::Comma
+        };
+        let item = Pending {
+            place,
+            lead: Some(lead),
+            closings: after,
+        };
+        let Ok(()) = stack.push(item) else {
+            unreachable()
+        };
+        after = 0;
+    }
 }
