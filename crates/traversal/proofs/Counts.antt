@@ -1,5 +1,5 @@
 -- A count of symbols, step by step.
-use Rattle.std.proofs.Common.{◌≡◌, ℕ, suc, ◌+◌, ◌<◌, ◌≤◌, List, [], ◌∷◌, Some, sym, refl, ap, subst, zero-add, arith}
+use Rattle.std.proofs.Common.{◌≡◌, ℕ, suc, ◌+◌, ◌<◌, ◌≤◌, List, [], ◌∷◌, Some, sym, refl, subst, zero-add, arith}
 use Rattle.terms.specs.Term.{Term, nil, cons, symbols}
 use Rattle.terms.specs.View.{Answers, Stands}
 use Rattle.traversal.specs.Walks.{most_symbols, Counted, StandsWith}

@@ -5,7 +5,6 @@ use Rattle.terms.specs.Term.{Term, variable, instrument, apply, Terms, nil, cons
 use Rattle.terms.specs.Signature.{Sig}
 use Rattle.terms.specs.Text.{text_of, arguments_text, others_text}
 use Rattle.terms.specs.View.{Answers, Stands, StandFrom}
-use Rattle.traversal.specs.declared.pending.Lead.TheVariants.{Opening, Comma}
 use Rattle.traversal.specs.declared.pending.Pending.{Pending}
 use Rattle.traversal.specs.Rows.{ahead, row_from, row_of, StandAll}
 use Rattle.traversal.specs.declared.write.writer.Writer.{Writer}
@@ -122,40 +121,27 @@ taken_bare sig v item es few none (cons t us) (s, all) =
           ∙ sym (append_assoc (head_text sig v item) (replicate c 41) (pending_text sig es us)),
     )
 
-pub stepped_arguments : (sig : Sig) (v : Answers) (item : Pending) (before after : List Pending) (old new : Writer) → Puts (head_text sig v item) old new → new.len ≤ old.len + length (lead_text item.lead) + 12 → 1 ≤ length (row_of v item.place) → after ≡ children (item.closings + 1) (row_of v item.place) ++ before → v.argument item.place 3 ≡ None → Stepped sig v (item ∷ before) after old new
-stepped_arguments sig v item before after old new puts short some put few =
-    let row = row_of v item.place in
+pub stepped_arguments : (sig : Sig) (v : Answers) (item : Pending) (row : List ℕ) (before after : List Pending) (old new : Writer) → Puts (head_text sig v item) old new → new.len ≤ old.len + length (lead_text item.lead) + 12 → row ≡ row_of v item.place → 0 < length row → after ≡ children (item.closings + 1) row ++ before → v.argument item.place 3 ≡ None → Stepped sig v (item ∷ before) after old new
+stepped_arguments sig v item row before after old new puts short is some put few =
     let three = row_short v item.place 3 0 in
+    let same = ap length is in
     let all = ap weight put in
     let sum = weight_children (item.closings + 1) row before some in
     record {
       bytes = head_text sig v item;
       puts = puts;
-      taken = subst (λ l. Taken sig v (head_text sig v item) (item ∷ before) l) (sym put) (taken_arguments sig v item before few some);
+      taken =
+          subst (λ l. Taken sig v (head_text sig v item) (item ∷ before) l)
+          (sym (put ∙ ap (λ l. children (item.closings + 1) l ++ before) is))
+          (taken_arguments sig v item before few (omega arith));
       little = omega arith;
     }
 
-pub stepped_bare : (sig : Sig) (v : Answers) (item : Pending) (before : List Pending) (old new : Writer) → Puts (head_text sig v item ++ replicate item.closings 41) old new → new.len ≤ old.len + length (lead_text item.lead) + 12 + item.closings → row_of v item.place ≡ [] → v.argument item.place 3 ≡ None → Stepped sig v (item ∷ before) before old new
-stepped_bare sig v item before old new puts short none few = record {
+pub stepped_bare : (sig : Sig) (v : Answers) (item : Pending) (row : List ℕ) (before : List Pending) (old new : Writer) → Puts (head_text sig v item ++ replicate item.closings 41) old new → new.len ≤ old.len + length (lead_text item.lead) + 12 + item.closings → row ≡ row_of v item.place → length row ≡ 0 → v.argument item.place 3 ≡ None → Stepped sig v (item ∷ before) before old new
+stepped_bare sig v item (p ∷ ps) before old new puts short is none few = absurd (let z : ⊥ = omega arith in z)
+stepped_bare sig v item [] before old new puts short is none few = record {
   bytes = head_text sig v item ++ replicate item.closings 41;
   puts = puts;
-  taken = taken_bare sig v item before few none;
+  taken = taken_bare sig v item before few (sym is);
   little = omega arith;
 }
-
--- the last of a row is the first to be put onto the stack
-others_last : (c p q : ℕ) (ps : List ℕ) (es : List Pending) → others c (q ∷ (ps ++ p ∷ [])) ++ es ≡ others 0 (q ∷ ps) ++ record { place = p; lead = Some Comma; closings = c } ∷ es
-others_last c p q [] es = refl
-others_last c p q (r ∷ ps) es = ap (λ l. record { place = q; lead = Some Comma; closings = 0 } ∷ l) (others_last c p r ps es)
-
-next_last : (c p q : ℕ) (ps : List ℕ) (es : List Pending) → children c (q ∷ (ps ++ p ∷ [])) ++ es ≡ children 0 (q ∷ ps) ++ record { place = p; lead = Some Comma; closings = c } ∷ es
-next_last c p q [] es = refl
-next_last c p q (r ∷ ps) es = ap (λ l. record { place = q; lead = Some Opening; closings = 0 } ∷ l) (others_last c p r ps es)
-
-pub children_first : (c p : ℕ) (row ps : List ℕ) (es : List Pending) → row ≡ ps ++ p ∷ [] → length ps ≡ 0 → children c row ++ es ≡ children 0 ps ++ record { place = p; lead = Some Opening; closings = c } ∷ es
-children_first c p row [] es e none = ap (λ l. children c l ++ es) e
-children_first c p row (q ∷ ps) es e none = absurd (let z : ⊥ = omega arith in z)
-
-pub children_next : (c p : ℕ) (row ps : List ℕ) (es : List Pending) → row ≡ ps ++ p ∷ [] → 0 < length ps → children c row ++ es ≡ children 0 ps ++ record { place = p; lead = Some Comma; closings = c } ∷ es
-children_next c p row [] es e some = absurd (let z : ⊥ = omega arith in z)
-children_next c p row (q ∷ ps) es e some = ap (λ l. children c l ++ es) e ∙ next_last c p q ps es

@@ -1,7 +1,7 @@
 -- What one visit of the count does.
-use Rattle.std.proofs.Common.{◌≡◌, ℕ, ◌+◌, ◌<◌, ◌≤◌, ◌⊎◌, List, [], ◌∷◌, ◌++◌, length, Some, None, Option, Ok, Err, Result, sym, refl, ap, ◌∙◌, subst, inl, inr, arith, length-append}
+use Rattle.std.proofs.Common.{◌≡◌, ℕ, ◌<◌, ◌≤◌, ◌⊎◌, List, [], ◌∷◌, ◌++◌, length, Some, None, Ok, Err, Result, sym, refl, ap, ◌∙◌, subst, inl, inr, arith, length-append}
 use Rattle.terms.specs.declared.symbol.Symbol.{Symbol}
-use Rattle.terms.specs.declared.symbol.Symbol.TheVariants.{Vacant, Variable, Instrument, Operator}
+use Rattle.terms.specs.declared.symbol.Symbol.TheVariants.{Variable, Instrument, Operator}
 use Rattle.terms.specs.Term.{Term, variable, instrument, apply, nil, cons, symbols}
 use Rattle.terms.specs.View.{Answers, Stands}
 use Rattle.traversal.specs.Walks.{most_symbols}
@@ -37,11 +37,6 @@ visited_none v p before none m (cons t ts, s, e) = absurd (none t s.0)
 
 pub no_symbol : (v : Answers) (p : ℕ) → v.symbol p ≡ None → (t : Term) → Stands v p t → ⊥
 no_symbol v p e t s = never (v.symbol p) (top t) e (stands_top v p t s)
-
-pub no_vacant : (v : Answers) (p : ℕ) → v.symbol p ≡ Some Vacant → (t : Term) → Stands v p t → ⊥
-no_vacant v p e (variable x) (s, a) = let z : ◌≡◌ {A = ℕ} 0 1 = cc in omega arith
-no_vacant v p e (instrument n) (s, a) = let z : ◌≡◌ {A = ℕ} 0 1 = cc in omega arith
-no_vacant v p e (apply f ts) (s, a) = let z : ◌≡◌ {A = ℕ} 0 1 = cc in omega arith
 
 -- a variable and an instrument are terms of one symbol
 abbrev Bare : Symbol → Type 0

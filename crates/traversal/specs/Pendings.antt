@@ -1,7 +1,7 @@
 -- The texts of terms that are still to be written.
 use Rattle.std.specs.Prelude.{◌≡◌, ℕ, suc, ◌+◌, ◌*◌, ◌%◌, ◌≤◌, List, [], ◌∷◌, ◌++◌, length, replicate, Some, None, decimal, Option}
 use Rattle.terms.specs.declared.symbol.Symbol.{Symbol}
-use Rattle.terms.specs.declared.symbol.Symbol.TheVariants.{Vacant, Variable, Instrument, Operator}
+use Rattle.terms.specs.declared.symbol.Symbol.TheVariants.{Variable, Instrument, Operator}
 use Rattle.terms.specs.Term.{Term, Terms, nil, cons, symbols, symbols_in}
 use Rattle.terms.specs.Signature.{Sig, op_of}
 use Rattle.terms.specs.Text.{text_of}
@@ -26,7 +26,6 @@ lead_text (Some l) = lead_byte l ∷ []
 -- the text of a symbol without its arguments
 abbrev pub symbol_text : Sig → Option Symbol → List ℕ
 symbol_text sig None = []
-symbol_text sig (Some Vacant) = []
 symbol_text sig (Some (Variable x)) = (65 + x % 16) ∷ []
 symbol_text sig (Some (Instrument n)) = 35 ∷ decimal n
 symbol_text sig (Some (Operator f)) = (op_of sig f).name

@@ -29,7 +29,6 @@ fn visit<V: TermView>(view: &V, place: u16, stack: &mut FixedVec<u16, MOST>) -> 
     ensures { Visited (V.answers view.now) (place ∷ content stack.old) (content stack.new) result }
 {
     match view.symbol(place)? {
-        Symbol::Vacant => None,
         Symbol::Variable(_) | Symbol::Instrument(_) => match view.argument(place, 0) {
             Some(_) => None,
             None => Some(()),

@@ -27,7 +27,7 @@ impl Writer<'_> {
         ensures short { self.new.len ≤ self.old.len + 12 }
     {
         match symbol {
-            None | Some(Symbol::Vacant) => {}
+            None => {}
             Some(Symbol::Variable(x)) => self.put(b'A' + x % 16),
             Some(Symbol::Instrument(n)) => {
                 self.put(b'#');

@@ -1,14 +1,10 @@
-use Rattle.std.proofs.Common.{Some, sym, ap, ◌∙◌, subst, arith}
-use Rattle.traversal.specs.Rows.{Visited}
-use Rattle.traversal.proofs.Visits.{visited_operator, visited_bare, visited_arguments, visited_none, no_symbol, no_vacant}
+use Rattle.std.proofs.Common.{Some, sym, ap, ◌∙◌, arith}
+use Rattle.traversal.proofs.Visits.{visited_operator, visited_bare, visited_arguments, visited_none, no_symbol}
 use Rattle.traversal.proofs.count.visit.Goals as goal
 
 pub returns-in_err-symbol : goal.returns-in_err-symbol
 returns-in_err-symbol g c =
     rw c.from_residual.ensures (visited_none _ c.args.place _ (no_symbol _ c.args.place (sym c.in_err-symbol.ensures)))
-
-pub returns-in-Vacant : goal.returns-in-Vacant
-returns-in-Vacant g c = visited_none _ c.args.place _ (no_vacant _ c.args.place (sym c.in_ok-symbol.ensures ∙ ap Some c.in-Vacant.is))
 
 pub returns-in-Some : goal.returns-in-Some
 returns-in-Some g c = visited_arguments _ c.args.place _ c.in_ok-symbol.field-0 _ (sym c.in_ok-symbol.ensures) c.in-Variable.is (sym c.in-Some.ensures.place)

@@ -1,5 +1,5 @@
 use Rattle.signature.specs.Declaring.{sig_of}
-use Rattle.stack.specs.Stack.{content}
+use Rattle.fixed_vec.specs.FixedVec.{content}
 use Rattle.traversal.specs.Pendings.{Laying}
 use Rattle.traversal.proofs.write.lay_text.Given as goal
 
