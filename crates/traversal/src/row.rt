@@ -10,7 +10,7 @@ pub fn arguments<V: TermView>(view: &V, place: u16) -> FixedVec<u16, 3>
     ensures row { items result ≡ row_of (V.answers view.now) place }
     ensures few { (V.answers view.now).argument place 3 ≡ None }
 {
-    let mut row: FixedVec<u16, 3> = FixedVec::new(place);
+    let mut row: FixedVec<u16, 3> = FixedVec::new(0);
     for n in 0..3 {
         let Some(argument) = view.argument(place, n) else {
             break;
