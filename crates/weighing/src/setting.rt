@@ -30,6 +30,7 @@ impl Weighing {
         let at = usize::from(operator);
         let row = *self.rows.get(at).ok_or(Unweighable::PastOperators)?;
         let base = Base::try_from(base)?;
+        // By index: after `get_mut` nothing is known of the other rows.
         self.rows[at] = Row { base, ..row };
         Ok(())
     }
@@ -47,7 +48,7 @@ impl Weighing {
         let at = usize::from(operator);
         let mut row = *self.rows.get(at).ok_or(Unweighable::PastOperators)?;
         row.factors.get(argument).ok_or(Unweighable::PastArguments)?;
-        // Written by index: after `get_mut` nothing is known of the other factors.
+        // By index: after `get_mut` nothing is known of the other factors.
         row.factors[argument] = factor.map(Factor::try_from).transpose()?;
         self.rows[at] = row;
         Ok(())
