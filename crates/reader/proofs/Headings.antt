@@ -13,9 +13,11 @@ use Rattle.reading.specs.declared.fault.SheetFault.{SheetFault}
 use Rattle.reading.specs.declared.fault.SheetFault.TheVariants.{Text}
 use Rattle.reading.specs.Tokens.{a_number, tokens, origin}
 use Rattle.reading.specs.Numbers.{value_after, up_to, numbered}
-use Rattle.std.specs.Result.{IsErrAnd}
+use Rattle.std.specs.Result.{IfErr, IsErrAnd}
+use Rattle.reading.specs.HeadingLaw.{OfHeading}
+use Rattle.reading.proofs.Headings.{heading_law}
 use Rattle.signature.specs.declared.Signature.{Signature}
-use Rattle.reader.specs.Machine.{Ends}
+use Rattle.reader.specs.Machine.{Finished}
 use Rattle.reader.specs.Heading.{Heads}
 use Rattle.reading.specs.Heading.{head_run, counted, wants_count, sheet_limit, read_heading}
 
@@ -42,7 +44,7 @@ count_taken sig f n ds at after r e h =
 
 -- what the driver answers is what the definition gives
 module _ (text : List ℕ) where
-  ended : (r : Result Signature SheetFault) (o : Result Sig SheetFault) → Ends (λ x sig. sig ≡ sig_of x) r o → Heads r o
+  ended : (r : Result Signature SheetFault) (o : Result Sig SheetFault) → Finished (λ x sig. sig ≡ sig_of x) r o → Heads r o
   ended (Ok x) o (sig, e, q) = e ∙ ap Ok q
   ended (Err f) o h = h
 
@@ -50,7 +52,12 @@ module _ (text : List ℕ) where
   refused (Ok x) f h = absurd h
   refused (Err e) f h = ap Err (sym h)
 
-  pub heading_read : (r : Result Signature SheetFault) → (length text ≤ 32768 → Ends (λ x sig. sig ≡ sig_of x) r (head_run 32 ([], WantsName) origin (tokens text)))
+  pub heading_read : (r : Result Signature SheetFault) → (length text ≤ 32768 → Finished (λ x sig. sig ≡ sig_of x) r (head_run 32 ([], WantsName) origin (tokens text)))
       → (32768 < length text → IsErrAnd r (λ e. e ≡ Text (PastLimit origin))) → Heads r (read_heading text)
   unfolding read_heading sheet_limit
   heading_read r within beyond = cond_both (leb (length text) 32768) _ _ (Heads r) (λ e. ended r _ (within (leb-true _ _ e))) (λ e. refused r _ (beyond (leb-false _ _ e)))
+
+  -- what is wrong with a heading
+  pub heading_fault : (r : Result Signature SheetFault) → Heads r (read_heading text) → IfErr r OfHeading
+  heading_fault (Ok x) h = tt
+  heading_fault (Err f) h = (heading_law text).refused f h

@@ -12,8 +12,8 @@ use Rattle.reading.specs.Tokens.{Tok, token_bytes, past, a_name, a_number, an_in
 use Rattle.reading.specs.Numbers.{instrument_number}
 use Rattle.reading.specs.Reading.{Context, top, within, State, wants, opens, has, named, with_name, with_number, on_wants, on_opens_mark, on_opens, closed, continued, on_has_mark, on_has, step}
 use Rattle.reader.specs.declared.parser.Parser.{Parser}
-use Rattle.reader.specs.Machine.{Steps}
-use Rattle.reader.specs.Parsing.{stack_nodes, state_nodes, Holds, Stepped, Sparse}
+use Rattle.reader.specs.Machine.{Stepped}
+use Rattle.reader.specs.Parsing.{stack_nodes, state_nodes, Holds, Sparse}
 use Rattle.reader.proofs.Stacks.{closed_nodes, continued_nodes}
 
 -- the state that follows, if one does, is sparse at the place behind
@@ -100,7 +100,7 @@ module _ (sig : Sig) (at : At) (place b : ℕ) (some_bytes : 1 ≤ b) where
   sparse_step tok s next h e = subst (Then (place + b)) e (after_step tok s h)
 
 -- after one token: the next state is sparse behind the token
-pub steps_on : (sig : Sig) (at : At) (tok : Tok) (s : State) (r : Result (Unit {0}) TextFault) (p : Parser) → 1 ≤ length (token_bytes tok) → Sparse s at.place → Stepped r (step sig s at tok) p
-    → Steps r (step sig s at tok) (λ u. Holds p u × Sparse u (past at tok).place)
+pub steps_on : (sig : Sig) (at : At) (tok : Tok) (s : State) (r : Result (Unit {0}) TextFault) (p : Parser) → 1 ≤ length (token_bytes tok) → Sparse s at.place → Stepped r (step sig s at tok) (Holds p)
+    → Stepped r (step sig s at tok) (λ u. Holds p u × Sparse u (past at tok).place)
 steps_on sig at tok s (Ok x) p b h (u, e, holds) = (u, e, (holds, sparse_step sig at at.place (length (token_bytes tok)) b tok s u h e))
 steps_on sig at tok s (Err f) p b h e = e

@@ -11,6 +11,7 @@ use Rattle.reading.specs.declared.fault.SheetFault.{SheetFault}
 use Rattle.reading.specs.declared.fault.SheetFault.TheVariants.{Text, Repeated}
 use Rattle.reading.specs.Heading.{Head, Outcome}
 use Rattle.reader.specs.declared.heading.Heading.{Heading}
+use Rattle.reader.specs.Machine.{Stepped}
 
 -- the operators so far, and what may come
 abbrev pub head_of : Heading → Head
@@ -18,8 +19,7 @@ head_of h = (sig_of h.signature, h.stage)
 
 -- after one token: what the definition comes to; or its fault
 abbrev pub Headed : Result (Unit {0}) SheetFault → Outcome → Head → Type 0
-Headed (Ok u) o h = o ≡ Ok h
-Headed (Err e) o h = o ≡ Err e
+Headed r o h = Stepped r o (λ s. s ≡ h)
 
 -- the fault of a name that is not declared
 abbrev pub why_not : Undeclarable → At → SheetFault

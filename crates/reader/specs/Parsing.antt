@@ -9,6 +9,7 @@ use Rattle.terms.specs.Nodes.{laid}
 use Rattle.terms.specs.Layout.{in_use, LaysOut}
 use Rattle.reading.specs.declared.token.At.{At}
 use Rattle.reading.specs.declared.fault.TextFault.{TextFault}
+use Rattle.reader.specs.Machine.{Stepped}
 use Rattle.reader.specs.declared.parser.Frame.{Frame}
 use Rattle.reader.specs.declared.parser.Phase.{Phase}
 use Rattle.reader.specs.declared.parser.Phase.TheVariants.{Wants, Opens, Has}
@@ -61,11 +62,6 @@ Sparse (wants k) place = 2 * length (stack_nodes k) ≤ place
 Sparse (opens f a n k) place = 2 * length (state_nodes (opens f a n k)) ≤ place + 1
 Sparse (has t m k) place = 2 * length (state_nodes (has t m k)) ≤ place + 1
 
--- after one token: the next state, which the parser holds; or the fault
-abbrev pub Stepped : Result (Unit {0}) TextFault → Result State TextFault → Parser → Type 0
-Stepped (Ok u) o p = (s : State) × (o ≡ Ok s) × Holds p s
-Stepped (Err e) o p = o ≡ Err e
-
 -- a state that a token of a ticket can meet at this place
 abbrev pub Roomy : State → ℕ → Type 0
 Roomy s place = Sparse s place × (place < 4096)
@@ -78,13 +74,8 @@ Leaf y (apply f ts) = (y ≡ Operator f) × (ts ≡ nil)
 
 -- a token at a place takes the parser, if it holds the state, to what follows
 abbrev pub Takes : Parser → State → At → Result (Unit {0}) TextFault → Result State TextFault → Parser → Type 0
-Takes p s at r next q = Holds p s → Roomy s at.place → Stepped r next q
+Takes p s at r next q = Holds p s → Roomy s at.place → Stepped r next (Holds q)
 
 -- and that from each state
 abbrev pub Moves : Parser → At → Result (Unit {0}) TextFault → (State → Result State TextFault) → Parser → Type 0
 Moves p at r next q = (s : State) → Takes p s at r (next s) q
-
--- at the end of the text: the nodes of the term that was read, or the fault
-abbrev pub Finished : Result (Layout 2048) TextFault → Result Term TextFault → Type 0
-Finished (Ok l) o = (t : Term) × (o ≡ Ok t) × LaysOut l t
-Finished (Err e) o = o ≡ Err e

@@ -1,5 +1,6 @@
+ghost use Rattle.std.specs.Prelude.{IfErr};
 ghost use Rattle.reading.specs.Heading.{read_heading};
-ghost use Rattle.reading.specs.HeadingLaw.{HeadingLaw};
+ghost use Rattle.reading.specs.HeadingLaw.{OfHeading, HeadingLaw};
 ghost use Rattle.reader.specs.Heading.{Heads};
 
 use crate::machine::read;
@@ -21,9 +22,11 @@ struct Heading {
 
 // The signature that the two lines at the head of a sheet declare, or what is wrong with them.
 // `reads`: it is just what the definition gives. `law`: the definition gives a signature exactly if the text is its heading.
+// `fault`: what is wrong is the text, or a name that stands twice.
 pub fn read_signature(text: &[u8]) -> Result<Signature, SheetFault>
     ensures reads { Heads result (read_heading text.now) }
     ensures law { HeadingLaw text.now }
+    ensures fault { IfErr result OfHeading }
 {
     read(Heading::new(), text)
 }

@@ -1,8 +1,7 @@
 ghost use Rattle.std.specs.Prelude.{◌≡◌, ℕ, ◌<◌, ◌≤◌, length, IsErrAnd};
 ghost use Rattle.reading.specs.declared.fault.TextFault.TheVariants.{PastLimit};
-ghost use Rattle.reading.specs.Tokens.{origin, past};
-ghost use Rattle.reader.specs.Lexing.{meaning};
-ghost use Rattle.reader.specs.Machine.{Rules, run_by, IsWithin, Steps, Ends};
+ghost use Rattle.reading.specs.Tokens.{origin};
+ghost use Rattle.reader.specs.Machine.{Rules, run_by, IsWithin, Advances, Finished};
 
 use crate::token::{Lexeme, Lexer};
 use reading::fault::TextFault;
@@ -33,16 +32,16 @@ pub trait Machine {
     // One token.
     fn step(&mut self, lexeme: Lexeme) -> Result<(), Self::Fault>
         ensures kept { rules self.new ≡ rules self.old }
-        ensures next { (s : State) → stands self.old s lexeme.entry.at.place → IsWithin most_bytes lexeme.entry → Steps result ((rules self.old).step s lexeme.entry.at (meaning lexeme.entry.token)) (λ u. stands self.new u (past lexeme.entry.at (meaning lexeme.entry.token)).place) };
+        ensures next { IsWithin most_bytes lexeme.entry → Advances (rules self.old) (stands self.old) lexeme.entry result (stands self.new) };
 
     // The end of the text.
     fn finish(self, at: At) -> Result<Self::Output, Self::Fault>
-        ensures { (s : State) → stands self s at.place → Ends gives result ((rules self).end s at) };
+        ensures { (s : State) → stands self s at.place → Finished gives result ((rules self).end s at) };
 }
 
 // What a machine reads a text as: what its rules give from its state on, unless the text is too long.
 pub fn read<M: Machine + Drop>(mut machine: M, text: &[u8]) -> Result<M::Output, M::Fault>
-    ensures within { length text.now ≤ M.most_bytes → (s : M.State) → M.stands machine s 0 → Ends M.gives result (run_by (M.rules machine) s text.now) }
+    ensures within { length text.now ≤ M.most_bytes → (s : M.State) → M.stands machine s 0 → Finished M.gives result (run_by (M.rules machine) s text.now) }
     ensures beyond { M.most_bytes < length text.now → IsErrAnd result (M.Fault.from_gives (PastLimit origin)) }
 {
     if text.len() > machine.limit() {

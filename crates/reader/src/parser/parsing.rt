@@ -2,11 +2,14 @@ ghost use Rattle.std.specs.Prelude.{◌≡◌, ℕ, Ok, Option};
 ghost use Rattle.terms.specs.Term.{Term, nil};
 ghost use Rattle.signature.specs.Declaring.{sig_of};
 ghost use Rattle.reading.specs.declared.token.Mark.TheVariants.{Opening};
-ghost use Rattle.reading.specs.Tokens.{a_name, an_instrument};
-ghost use Rattle.reading.specs.Reading.{Context, top, State, wants, opens, has, on_wants, on_opens_mark, needless, closed, continued, step, ending};
+ghost use Rattle.reading.specs.Tokens.{a_name};
+ghost use Rattle.reading.specs.Numbers.{instrument_number};
+ghost use Rattle.reading.specs.Reading.{Context, top, State, wants, opens, has, on_wants, with_number, on_opens_mark, needless, closed, continued, step, ending};
 ghost use Rattle.reader.specs.declared.parser.Phase.TheVariants.{Opens, Has};
 ghost use Rattle.reader.specs.Lexing.{meaning};
-ghost use Rattle.reader.specs.Parsing.{Holds, Leaf, Takes, Moves, Finished};
+ghost use Rattle.reader.specs.Machine.{Finished};
+ghost use Rattle.terms.specs.Layout.{LaysOut};
+ghost use Rattle.reader.specs.Parsing.{Holds, Leaf, Takes, Moves};
 
 use super::{Frame, Parser, Phase, Whole};
 use crate::number::instrument_number;
@@ -90,13 +93,8 @@ impl Parser {
     }
 
     // An instrument, where a term may begin.
-    fn take_instrument(
-        &mut self,
-        signature: &Signature,
-        part: &[u8],
-        at: At,
-    ) -> Result<(), TextFault>
-        ensures { (k : Context) → Takes self.old (wants k) at result (on_wants (sig_of signature.now) (an_instrument part.now) at k) self.new }
+    fn take_instrument(&mut self, part: &[u8], at: At) -> Result<(), TextFault>
+        ensures { (k : Context) → Takes self.old (wants k) at result (with_number (instrument_number part.now) at k) self.new }
     {
         let n = instrument_number(part).ok_or(TextFault::BadNumber(at))?;
         self.take_leaf(Symbol::Instrument(n), None, at)
@@ -155,7 +153,7 @@ impl Parser {
         let Lexeme { token, at } = lexeme;
         match (self.phase, token) {
             (Phase::Wants, Token::Name(name)) => self.take_name(signature, name, at),
-            (Phase::Wants, Token::Instrument(part)) => self.take_instrument(signature, part, at),
+            (Phase::Wants, Token::Instrument(part)) => self.take_instrument(part, at),
             (Phase::Opens(frame), Token::Mark(Mark::Opening)) => self.open(frame, at),
             (Phase::Opens(frame), _) => Err(lexeme.fault_or(TextFault::WrongArity(frame.at))),
             (Phase::Has(read), Token::Mark(Mark::Opening)) => Err(needless_fault(read.bare, at)),
@@ -167,7 +165,7 @@ impl Parser {
 
     // The end of the text.
     pub fn finish(self, at: At) -> Result<Layout<TICKET_NODES>, TextFault>
-        ensures { (s : State) → Holds self s → Finished result (ending s at) }
+        ensures { (s : State) → Holds self s → Finished LaysOut result (ending s at) }
     {
         match self.phase {
             Phase::Has(_) if self.frames.is_empty() => Ok(self.nodes),

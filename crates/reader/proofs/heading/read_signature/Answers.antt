@@ -1,10 +1,12 @@
 use Rattle.std.proofs.Common.{sym}
 use Rattle.reading.proofs.Headings.{heading_law}
-use Rattle.reader.proofs.Headings.{heading_read}
+use Rattle.reading.specs.Heading.{read_heading}
+use Rattle.reader.specs.Heading.{Heads}
+use Rattle.reader.proofs.Headings.{heading_read, heading_fault}
 use Rattle.reader.proofs.heading.read_signature.Goals as goal
 
-pub returns-clause-reads : goal.returns-clause-reads
-returns-clause-reads c = heading_read c.args.text.now c.read.result (λ h. c.read.ensures.within h _ (sym c.new.ensures)) c.read.ensures.beyond
+reads : (c : goal.After-read) → Heads c.read.result (read_heading c.args.text.now)
+reads c = heading_read c.args.text.now c.read.result (λ h. c.read.ensures.within h _ (sym c.new.ensures)) c.read.ensures.beyond
 
-pub returns-clause-law : goal.returns-clause-law
-returns-clause-law c = heading_law c.args.text.now
+pub returns : goal.returns
+returns c = let r = reads c in record { reads = r; law = heading_law c.args.text.now; fault = heading_fault c.args.text.now c.read.result r }
