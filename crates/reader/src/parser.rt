@@ -5,11 +5,11 @@ use terms::layout::Layout;
 
 pub mod parsing;
 
-// An operator whose arguments are being read: its node, where its name stands, and how many arguments follow the one being read.
+// An operator whose arguments are being read: where its name stands, its node, and how many arguments follow the one being read.
 #[derive(Clone, Copy)]
 pub struct Frame {
-    pub node: u16,
     pub at: At,
+    pub node: u16,
     pub left: u8,
 }
 

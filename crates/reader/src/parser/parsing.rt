@@ -39,8 +39,8 @@ impl Parser {
         ensures { Holds result (wants top) }
     {
         let filler = Frame {
-            node: 0,
             at: At::ORIGIN,
+            node: 0,
             left: 0,
         };
         Parser {
@@ -75,7 +75,7 @@ impl Parser {
             next: None,
         };
         let node = self.nodes.push(head).ok_or(TextFault::PastLimit(at))?;
-        self.phase = Phase::Opens(Frame { node, at, left });
+        self.phase = Phase::Opens(Frame { at, node, left });
         Ok(())
     }
 
