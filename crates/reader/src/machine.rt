@@ -25,7 +25,7 @@ pub trait Machine {
 
     ghost gives: { Self.Output → Value → Type 0 };
 
-    // How many bytes the text may have.
+    // How many bytes the text may have. A method: no constant is proved yet in an impl whose type has a lifetime.
     fn limit(&self) -> usize
         ensures { result ≡ most_bytes };
 

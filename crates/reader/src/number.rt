@@ -15,14 +15,15 @@ pub fn is_plain(digits: &[u8]) -> bool
     }
 }
 
-// The number that digits write, if it is at most `most`.
+// The number that digits write, if it is at most `most`. A `for`, since it ends at the first digit past that.
+#[tactic(auto, using(crate::proofs::Values::value_grows, crate::proofs::Values::value_more, crate::proofs::Values::value_done, crate::proofs::Values::up_past, crate::proofs::Values::up_within))]
 fn value(digits: &[u8], most: u32) -> Option<u32>
     ensures { result ≡ up_to most (value_after 0 digits.now) }
 {
     let mut n: u64 = 0;
     for d in digits {
-        n = n * 10 + d.saturating_sub(b'0') as u64;
-        if n > most as u64 {
+        n = n * 10 + u64::from(d.saturating_sub(b'0'));
+        if n > u64::from(most) {
             return None;
         }
     }
@@ -41,6 +42,7 @@ pub fn number(digits: &[u8], most: u32) -> Option<u32>
 }
 
 // The number of an instrument, from '#' and its digits.
+#[tactic(auto, using(crate::proofs::Values::instrument_is))]
 pub fn instrument_number(part: &[u8]) -> Option<u32>
     ensures { result ≡ instrument_number part.now }
 {

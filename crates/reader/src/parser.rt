@@ -29,7 +29,7 @@ pub enum Phase {
 }
 
 // What is read so far: the nodes in reading order, the operators whose arguments are being read, and what may come.
-#[derive(Clone, Copy)]
+#[derive(Drop)]
 pub struct Parser {
     nodes: Layout<TICKET_NODES>,
     frames: FixedVec<Frame, TICKET_NODES>,

@@ -22,7 +22,7 @@ pub const TICKET_BYTES: usize = 4096;
 pub const TICKET_NODES: usize = 2048;
 
 // A ticket of a signature, as far as it is read.
-#[derive(Clone, Copy)]
+#[derive(Drop)]
 struct TicketReader<'s> {
     signature: &'s Signature,
     parser: Parser,
