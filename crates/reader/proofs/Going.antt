@@ -1,11 +1,16 @@
 -- The loop that reads a text token by token.
-use Rattle.std.proofs.Common.{◌≡◌, ℕ, ◌+◌, ◌<◌, ◌≤◌, [], length, Ok, Err, Result, sym, ap, ◌∙◌, subst, arith, length-append}
+use Rattle.std.proofs.Common.{◌≡◌, ℕ, ◌+◌, ◌≤◌, length, Ok, Err, Result, ap}
+use Rattle.std.specs.Result.{IsErrAnd}
 use Rattle.reading.specs.declared.token.At.{At}
-use Rattle.reading.specs.Tokens.{Tok, token_bytes, tokens, past}
-use Rattle.reading.specs.Reading.{chain, run_with}
-use Rattle.reader.specs.declared.token.Lexeme.{Lexeme}
+use Rattle.reading.specs.Tokens.{Tok, tokens}
+use Rattle.reading.specs.Reading.{run_with}
 use Rattle.reader.specs.declared.token.Lexer.{Lexer}
-use Rattle.reader.specs.Lexing.{meaning, what_is_left, ReadToken}
+use Rattle.reader.specs.Lexing.{what_is_left}
+
+-- a result that is an error, and that one
+pub is_err : {O E : Type 0} (r : Result O E) (f : E) → IsErrAnd r (λ e. e ≡ f) → r ≡ Err f
+is_err (Ok x) f h = absurd h
+is_err (Err e) f h = ap Err h
 
 module _ {S A E : Type 0} (step : S → At → Tok → Result S E) (end : S → At → Result A E) where
   -- a state stands at the lexer's place from which the rest of a text, of so many bytes at most, is read as the whole text is

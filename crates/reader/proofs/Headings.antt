@@ -1,5 +1,5 @@
 -- The steps that read a heading, and the loop.
-use Rattle.std.proofs.Common.{◌≡◌, ℕ, ◌<◌, ◌≤◌, leb, List, [], length, set, Some, None, Ok, Err, Option, Result, sym, ap, ◌∙◌, subst, arith}
+use Rattle.std.proofs.Common.{◌≡◌, ℕ, ◌<◌, ◌≤◌, leb, List, [], length, set, Some, None, Ok, Err, Option, Result, refl, sym, ap, ◌∙◌, subst, arith}
 use Rattle.std.proofs.lemmas.List.{set_past}
 use Rattle.std.proofs.lemmas.Bool.{cond_both, leb-true, leb-false}
 use Rattle.terms.specs.Signature.{Sig, op_of}
@@ -17,6 +17,7 @@ use Rattle.std.specs.Result.{IfErr, IsErrAnd}
 use Rattle.reading.specs.HeadingLaw.{OfHeading}
 use Rattle.reading.proofs.Headings.{heading_law}
 use Rattle.signature.specs.declared.Signature.{Signature}
+use Rattle.reader.proofs.Going.{is_err}
 use Rattle.reader.specs.Machine.{Finished}
 use Rattle.reader.specs.Heading.{Heads}
 use Rattle.reading.specs.Heading.{head_run, counted, wants_count, sheet_limit, read_heading}
@@ -48,14 +49,10 @@ module _ (text : List ℕ) where
   ended (Ok x) o (sig, e, q) = e ∙ ap Ok q
   ended (Err f) o h = h
 
-  refused : (r : Result Signature SheetFault) (f : SheetFault) → IsErrAnd r (λ e. e ≡ f) → Heads r (Err f)
-  refused (Ok x) f h = absurd h
-  refused (Err e) f h = ap Err (sym h)
-
   pub heading_read : (r : Result Signature SheetFault) → (length text ≤ 32768 → Finished (λ x sig. sig ≡ sig_of x) r (head_run 32 ([], WantsName) origin (tokens text)))
       → (32768 < length text → IsErrAnd r (λ e. e ≡ Text (PastLimit origin))) → Heads r (read_heading text)
   unfolding read_heading sheet_limit
-  heading_read r within beyond = cond_both (leb (length text) 32768) _ _ (Heads r) (λ e. ended r _ (within (leb-true _ _ e))) (λ e. refused r _ (beyond (leb-false _ _ e)))
+  heading_read r within beyond = cond_both (leb (length text) 32768) _ _ (Heads r) (λ e. ended r _ (within (leb-true _ _ e))) (λ e. subst (λ z. Heads z (Err (Text (PastLimit origin)))) (sym (is_err r _ (beyond (leb-false _ _ e)))) refl)
 
   -- what is wrong with a heading
   pub heading_fault : (r : Result Signature SheetFault) → Heads r (read_heading text) → IfErr r OfHeading

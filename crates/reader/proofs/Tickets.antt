@@ -13,6 +13,7 @@ use Rattle.reading.specs.Tokens.{tokens, origin}
 use Rattle.reading.specs.Reading.{wants, top, run, ticket_limit, read_ticket}
 use Rattle.reading.specs.Laws.{Explained}
 use Rattle.reading.proofs.Reading.{ticket_law}
+use Rattle.reader.proofs.Going.{is_err}
 use Rattle.reader.specs.Machine.{Finished}
 use Rattle.reader.specs.Ticket.{Reads}
 
@@ -24,12 +25,8 @@ module _ (sig : Sig) (d : Declared sig) (text : List ℕ) where
       record { ticket = t; given = g; in_order = laid; stands = laid_stands (in_use l) t (ticket_narrow sig d t told.0) laid; counted = ap length laid ∙ length-laid 0 None t }
   answered o (Err f) e h = h
 
-  refused : (r : Result (Layout 2048) TextFault) (f : TextFault) → IsErrAnd r (λ e. e ≡ f) → Reads r (Err f)
-  refused (Ok x) f h = absurd h
-  refused (Err e) f h = ap Err (sym h)
-
   -- what the driver answers is what the definition gives
   pub ticket_read : (r : Result (Layout 2048) TextFault) → (length text ≤ 4096 → Finished (λ l t. LaysOut l t) r (run sig (wants top) origin (tokens text)))
       → (4096 < length text → IsErrAnd r (λ e. e ≡ PastLimit origin)) → Reads r (read_ticket sig text)
   unfolding read_ticket ticket_limit
-  ticket_read r within beyond = cond_both (leb (length text) 4096) _ _ (λ o. read_ticket sig text ≡ o → Reads r o) (λ e q. answered _ r q (within (leb-true _ _ e))) (λ e q. refused r _ (beyond (leb-false _ _ e))) refl
+  ticket_read r within beyond = cond_both (leb (length text) 4096) _ _ (λ o. read_ticket sig text ≡ o → Reads r o) (λ e q. answered _ r q (within (leb-true _ _ e))) (λ e q. subst (λ z. Reads z (Err (PastLimit origin))) (sym (is_err r _ (beyond (leb-false _ _ e)))) refl) refl

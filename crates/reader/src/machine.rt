@@ -7,25 +7,30 @@ use crate::token::{Lexeme, Lexer};
 use reading::fault::TextFault;
 use reading::token::At;
 
-// What reads a text token by token. It stands for a state of the definition, from which its rules lead to the next.
+// What reads a text token by token. It stands for a state of the definition, from which the definition's rules go on.
 pub trait Machine {
     type Output;
 
     type Fault: From<TextFault>;
 
+    // The states of the definition, and the values that it reads.
     ghost State: { Type 0 };
 
     ghost Value: { Type 0 };
 
+    // How many bytes the text may have.
     ghost most_bytes: { ℕ };
 
+    // The definition: a step for each token, and the end.
     ghost rules: { Self → Rules State Value Self.Fault };
 
+    // That the machine stands for a state at a place.
     ghost stands: { Self → State → ℕ → Type 0 };
 
+    // That an output is a value.
     ghost gives: { Self.Output → Value → Type 0 };
 
-    // How many bytes the text may have. A method: no constant is proved yet in an impl whose type has a lifetime.
+    // The same in code. A method: no constant is proved yet in an impl whose type has a lifetime.
     fn limit(&self) -> usize
         ensures { result ≡ most_bytes };
 
