@@ -1,2 +1,3 @@
 pub mod Lines
 pub mod Replies
+pub mod Endings

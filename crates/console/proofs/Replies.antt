@@ -18,14 +18,11 @@ use Rattle.traversal.specs.declared.unwritten.Unwritten.{Unwritten}
 use Rattle.traversal.specs.declared.unwritten.Unwritten.TheVariants.{NoTerm, TooShort}
 use Rattle.traversal.specs.Walks.{most_symbols, Written}
 
-pub few_symbols : (n : ℕ) → n ≤ 2048 → n ≤ most_symbols
-unfolding most_symbols
-few_symbols n h = omega arith
-
 module _ (sig : Sig) (v : Answers) (before after : List ℕ) (t : Term) (stands : Stands v 0 t) where
   -- a term that stands there and fits the buffer is written
-  pub written : symbols t ≤ most_symbols → length (text_of sig t) ≤ length before → (e : Unwritten) → Written sig v 0 before after (Err e) → ⊥
-  written small fits NoTerm w = w.0 t (stands, small)
+  pub written : symbols t ≤ 2048 → length (text_of sig t) ≤ length before → (e : Unwritten) → Written sig v 0 before after (Err e) → ⊥
+  unfolding most_symbols
+  written small fits NoTerm w = w.0 t (stands, omega arith)
   written small fits TooShort w =
       let (u, s, short) = w.0 in
       omega (arith, short, ap (λ x. length (text_of sig x)) (one_at_a_place v 0 u t s.0 stands))
@@ -40,11 +37,8 @@ pub utf8_text : (sig : Sig) → Declared sig → (t : Term) → Ticket sig t →
 utf8_text sig d t h bs e = subst IsUtf8 (sym e) (IsUtf8-from_ascii (text_of sig t) (ascii_text d t h))
 
 -- a ticket that was read fits the buffer
-within_limit : (n : ℕ) → n ≤ ticket_limit → n ≤ 4096
-unfolding ticket_limit
-within_limit n h = h
-
 pub showable : (sig : Sig) (b : List ℕ) (l : Layout 2048) (buffer : List ℕ) → LaidTicket l (read_ticket sig b) → TicketLaw sig b → length buffer ≡ 4096 → Showable sig l buffer
+unfolding ticket_limit
 showable sig b l buffer r law e =
     let told : Explained sig b (Ok r.ticket) = subst (Explained sig b) r.given law.explained in
     record {
@@ -52,5 +46,5 @@ showable sig b l buffer r law e =
       is_ticket = told.0;
       stands = r.stands;
       counted = r.counted;
-      fits = omega (arith, e, ap length told.1, within_limit (length b) told.2);
+      fits = omega (arith, e, ap length told.1, told.2);
     }

@@ -1,6 +1,8 @@
 -- Lines of the input.
-use Rattle.std.specs.Prelude.{◌≡◌, ℕ, suc, Bool, true, cond, not, ◌&&◌, List, [], ◌∷◌, ◌++◌, length, take, Some, None, Option, ◌==◌, nat_lt}
+use Rattle.std.specs.Prelude.{◌≡◌, ℕ, suc, Bool, true, cond, not, ◌&&◌, List, [], ◌∷◌, ◌++◌, length, Some, None, Option, ◌==◌, nat_lt}
 use Rattle.std.specs.Borrow.{Bor}
+use Rattle.fixed_vec.specs.declared.FixedVec.{FixedVec}
+use Rattle.fixed_vec.specs.FixedVec.{items}
 use Rattle.console.specs.declared.line.Line.{Line}
 
 -- what is read of a line: its bytes, or that there are more than 4,200 of them
@@ -12,8 +14,12 @@ abbrev pub one_more : Seen → ℕ → Seen
 one_more (whole_line bs) b = cond (nat_lt (length bs) 4200) (whole_line (bs ++ b ∷ [])) overlong_line
 one_more overlong_line b = overlong_line
 
+abbrev pub seen_of : {N : ℕ} → Option (FixedVec ℕ N) → Seen
+seen_of None = overlong_line
+seen_of (Some bytes) = whole_line (items bytes)
+
 abbrev pub seen : Line → Seen
-seen l = cond l.overlong overlong_line (whole_line (take l.len l.bytes))
+seen l = seen_of l.bytes
 
 -- so many bytes more
 abbrev pub more : Seen → List ℕ → Seen

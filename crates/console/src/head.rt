@@ -15,15 +15,12 @@ use signature::Signature;
 pub fn open(head: &[u8]) -> Result<Signature, Refusal>
     ensures { Opens result (read_heading head.now) }
 {
-    match read_signature(head) {
-        Ok(signature) => Ok(signature),
-        Err(fault) => Err(fault.refusal()),
-    }
+    Ok(read_signature(head)?)
 }
 
 // The refusal of a line that is too long.
 pub fn too_long() -> Refusal
     ensures { result ≡ text_refusal (PastLimit origin) }
 {
-    TextFault::PastLimit(At { place: 0, line: 0 }).refusal()
+    Refusal::from(TextFault::PastLimit(At::ORIGIN))
 }

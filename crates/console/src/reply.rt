@@ -1,10 +1,73 @@
+ghost use Rattle.std.specs.Prelude.{◌≡◌, [], ◌∷◌, ◌++◌, OnOk, Some};
+ghost use Rattle.std.specs.Io.KnownBytes.{Appends};
+ghost use Rattle.signature.specs.Declaring.{sig_of};
+ghost use Rattle.console.specs.Lines.{seen};
+ghost use Rattle.console.specs.Replies.{ticket_text, reply_text, answer_text, Showable, Shows};
+
+use crate::head::too_long;
+use crate::line::Line;
+use reader::ticket::{TICKET_BYTES, TICKET_NODES, read_ticket};
 use reading::refusal::Refusal;
+use signature::Signature;
+use std::io::Write;
+use std::{fmt, io};
+use terms::layout::Layout;
+use traversal::write::write_text;
 
-pub mod replying;
-
-// The answer to a line: a ticket, with its symbols and its text, or a refusal.
+// A ticket as it is answered: how many symbols it has, and its text.
 #[derive(Clone, Copy)]
-pub enum Reply<'b> {
-    Ticket { symbols: usize, text: &'b str },
-    Refused(Refusal),
+pub struct TicketLine<'b> {
+    pub symbols: usize,
+    pub text: &'b str,
+}
+
+impl<'b> fmt::Display for TicketLine<'b> {
+    ghost output = { λ t. Some (ticket_text t) };
+
+    fn fmt<W: fmt::Write>(&self, f: &mut fmt::Formatter<W>) -> fmt::Result {
+        let TicketLine { symbols, text } = *self;
+        write!(f, "ticket {symbols} {text}")
+    }
+}
+
+// The answer to a line. The buffer takes the ticket's text, written anew from the term that was read.
+pub fn reply<'b>(
+    signature: &Signature,
+    line: &Line,
+    buffer: &'b mut [u8; TICKET_BYTES],
+) -> Result<TicketLine<'b>, Refusal>
+    ensures { reply_text result ≡ answer_text (sig_of signature.now) (seen line.now) }
+{
+    let text = line.text().ok_or_else(too_long)?;
+    let ticket = read_ticket(signature, text)?;
+    Ok(show(signature, &ticket, buffer))
+}
+
+// The answer to the text of a ticket.
+fn show<'b>(
+    signature: &Signature,
+    ticket: &Layout<TICKET_NODES>,
+    buffer: &'b mut [u8],
+) -> TicketLine<'b>
+    requires { Showable (sig_of signature.now) ticket.now buffer.old }
+    ensures { Shows (sig_of signature.now) ticket.now result }
+{
+    let symbols = ticket.len();
+    let Ok(n) = write_text(signature, ticket, 0, buffer) else {
+        unreachable()
+    };
+    let Ok(text) = std::str::from_utf8(&buffer[0..n]) else {
+        unreachable()
+    };
+    TicketLine { symbols, text }
+}
+
+// Writes an answer, and a line end behind it.
+pub fn write_reply<W: Write>(out: &mut W, reply: Result<TicketLine<'_>, Refusal>) -> io::Result<()>
+    ensures { OnOk result (Appends (W.contents out.old) (W.contents out.new) (reply_text reply.entry ++ 10 ∷ [])) }
+{
+    match reply {
+        Ok(ticket) => writeln!(out, "{ticket}"),
+        Err(refusal) => writeln!(out, "{refusal}"),
+    }
 }

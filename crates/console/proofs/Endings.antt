@@ -1,0 +1,77 @@
+-- A line that is read from a reader, chunk by chunk.
+use Rattle.std.proofs.Common.{◌≡◌, ℕ, ◌<◌, ◌≤◌, true, List, [], ◌∷◌, ◌++◌, length, take, Some, None, Option, IfSome, OnSome, sym, ap, ◌∙◌, subst, arith, append_assoc, length-append}
+use Rattle.std.specs.Io.KnownBytes.{Consumes, Keeps, IsAtEnd}
+use Rattle.std.proofs.KnownBytes.{Consumes-trans, Consumes-kept}
+use Rattle.std.proofs.lemmas.List.{take_at}
+use Rattle.console.specs.declared.line.Ending.{Ending}
+use Rattle.console.specs.declared.line.Ending.TheVariants.{LineEnd, InputEnd}
+use Rattle.console.specs.Lines.{Seen, whole_line, more, no_line_end, Taken}
+use Rattle.console.specs.Endings.{Collected, Ends}
+use Rattle.console.proofs.Lines.{more_join, clean_join}
+
+-- how the line ends if no byte more is there
+abbrev pub EndsSo : Option Ending → List ℕ → Type 0
+EndsSo None bs = bs ≡ []
+EndsSo (Some LineEnd) bs = ⊥
+EndsSo (Some InputEnd) bs = 0 < length bs
+
+-- what the loop over the chunks keeps
+pub record Collecting (before now : Option (List ℕ)) (s : Seen) (ending : Option Ending) : Type 0 where
+  pub bytes : List ℕ
+  pub collected : Collected bytes s
+  pub consumed : Consumes before now bytes
+  pub ends : EndsSo ending bytes
+
+collected_more : (xs ys : List ℕ) (s t : Seen) → Collected xs s → t ≡ more s ys → no_line_end ys ≡ true → Collected (xs ++ ys) t
+collected_more xs ys s t c e h = record {
+  read = e ∙ ap (λ x. more x ys) c.read ∙ sym (more_join (whole_line []) xs ys);
+  clean = clean_join xs ys c.clean h;
+}
+
+at_end : (before a b : Option (List ℕ)) (bs chunk : List ℕ) → Consumes before a bs → length chunk ≡ 0 → IfSome a (λ xs. length chunk ≡ 0 → xs ≡ []) → Keeps a b → OnSome before (IsAtEnd b)
+at_end None a b bs chunk p none end kept = tt
+at_end (Some x) None b bs chunk p none end kept = absurd p
+at_end (Some x) (Some y) None bs chunk p none end kept = absurd kept
+at_end (Some x) (Some y) (Some z) bs chunk p none end kept = kept ∙ end none
+
+-- a line end that is found stands in the chunk
+pub found_within : (chunk : List ℕ) (s t : Seen) (n : ℕ) → Taken s chunk t (Some n) → n ≤ length chunk
+found_within chunk s t n w =
+    let (front, rest, split, clean, many, read) = w in
+    omega (arith, many, ap length split, length-append front (10 ∷ rest))
+
+module _ (before a b : Option (List ℕ)) (s t : Seen) (ending : Option Ending) (g : Collecting before a s ending) where
+  -- a chunk without a line end is collected whole
+  pub whole_chunk : (chunk : List ℕ) → 0 < length chunk → Taken s chunk t None → Consumes a b chunk → Collecting before b t (Some InputEnd)
+  whole_chunk chunk some w q = record {
+    bytes = g.bytes ++ chunk;
+    collected = collected_more g.bytes chunk s t g.collected w.0 w.1;
+    consumed = Consumes-trans before a b g.bytes chunk g.consumed q;
+    ends = omega (arith, length-append g.bytes chunk);
+  }
+
+  -- a line end ends the line
+  pub line_found : (chunk : List ℕ) (n : ℕ) → Taken s chunk t (Some n) → Consumes a b (take n chunk) → Ends before b t (Some LineEnd)
+  line_found chunk n w q =
+      let (front, rest, split, clean, many, read) = w in
+      let shown : take n chunk ≡ front ++ 10 ∷ [] = ap (take n) (split ∙ sym (append_assoc front (10 ∷ []) rest)) ∙ take_at (front ++ 10 ∷ []) rest n (omega (arith, many, length-append front (10 ∷ []))) in (
+        g.bytes ++ front,
+        collected_more g.bytes front s t g.collected read clean,
+        subst (Consumes before b) (ap (λ l. g.bytes ++ l) shown ∙ sym (append_assoc g.bytes front (10 ∷ []))) (Consumes-trans before a b g.bytes (take n chunk) g.consumed q),
+      )
+
+-- where no byte more is there the line ends
+pub no_chunk : (before a b : Option (List ℕ)) (s : Seen) (ending : Option Ending) → Collecting before a s ending → (chunk : List ℕ) → length chunk ≡ 0 → IfSome a (λ xs. length chunk ≡ 0 → xs ≡ []) → Keeps a b → Ends before b s ending
+no_chunk before a b s None g chunk none end kept = (
+  g.collected.read ∙ ap (more (whole_line [])) g.ends,
+  subst (Consumes before b) g.ends (Consumes-kept before a b g.bytes g.consumed kept),
+  at_end before a b g.bytes chunk g.consumed none end kept,
+)
+no_chunk before a b s (Some LineEnd) g chunk none end kept = absurd g.ends
+no_chunk before a b s (Some InputEnd) g chunk none end kept = (
+  g.bytes,
+  g.ends,
+  g.collected,
+  Consumes-kept before a b g.bytes g.consumed kept,
+  at_end before a b g.bytes chunk g.consumed none end kept,
+)
