@@ -2,62 +2,67 @@
 #![tactic(auto)]
 
 use console::head::{open, too_long};
-use console::line::Line;
-use console::reply::replying::reply;
-use input::{Ending, Input};
+use console::line::{Ending, Line};
+use console::reply::{reply, write_reply};
+use reader::ticket::TICKET_BYTES;
 use reading::refusal::Refusal;
 use signature::Signature;
-use std::io::{BufWriter, Write};
+use std::alloc::Global;
+use std::io;
+use std::io::{BufRead, BufReader, BufWriter, Read, Write};
 
-mod input;
+// How many bytes of the input are read at a time.
+const CHUNK_BYTES: usize = 65536;
 
 // The signature of the first two lines, or the refusal of them.
-fn read_head(
-    rt: &HostRuntime,
-    input: &mut Input,
+fn read_head<R: BufRead>(
+    heap: Global,
+    input: &mut R,
     line: &mut Line,
 ) -> anyhow::Result<Result<Signature, Refusal>> {
-    let mut head = Vec::new(rt.alloc());
+    let mut head = Vec::new(heap);
     for _ in 0..2 {
-        let ending = input.read_line(line)?;
+        let ending = line.read_from(input)?;
         let Some(text) = line.text() else {
             return Ok(Err(too_long()));
         };
         head.extend_from_slice(text)?;
-        if let Ending::LineEnd = ending {
+        if ending == Some(Ending::LineEnd) {
             head.push(b'\n')?;
         }
     }
     Ok(open(head.as_slice()))
 }
 
-fn run(rt: &HostRuntime) -> anyhow::Result<()> {
-    let mut out = BufWriter::new(rt.alloc(), rt.stdout())?;
-    let mut input = Input::new(rt.stdin());
-    let mut line = Line::new();
-    let signature = match read_head(rt, &mut input, &mut line)? {
-        Ok(signature) => signature,
-        Err(refused) => {
-            writeln!(out, "{refused}")?;
-            out.flush()?;
-            return Ok(());
-        }
-    };
-    let mut buffer = [0; 4096];
+// Answers each line of the input. Before more of the input is waited for, what is answered is written out.
+fn answer_lines<R: Read, W: Write>(
+    signature: &Signature,
+    input: &mut BufReader<R>,
+    line: &mut Line,
+    out: &mut W,
+) -> io::Result<()> {
+    let mut buffer = [0; TICKET_BYTES];
+    // a reader may have no end, so the lines are counted
     for _ in 0..u64::MAX {
-        if input.is_spent() {
+        if input.buffer().is_empty() {
             out.flush()?;
         }
-        if let Ending::Nothing = input.read_line(&mut line)? {
+        if line.read_from(input)?.is_none() {
             break;
         }
-        let answer = reply(&signature, &line, &mut buffer);
-        writeln!(out, "{answer}")?;
+        write_reply(out, reply(signature, line, &mut buffer))?;
     }
-    out.flush()?;
     Ok(())
 }
 
 fn main(rt: HostRuntime) -> anyhow::Result<()> {
-    run(&rt)
+    let mut input = BufReader::with_capacity(rt.alloc(), CHUNK_BYTES, rt.stdin())?;
+    let mut out = BufWriter::new(rt.alloc(), rt.stdout())?;
+    let mut line = Line::new();
+    match read_head(rt.alloc(), &mut input, &mut line)? {
+        Ok(signature) => answer_lines(&signature, &mut input, &mut line, &mut out)?,
+        Err(refusal) => writeln!(out, "{refusal}")?,
+    }
+    out.flush()?;
+    Ok(())
 }
