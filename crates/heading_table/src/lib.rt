@@ -7,32 +7,28 @@ pub mod cases;
 mod tests {
     use crate::cases::{CASES, NAMES};
     use reader::heading::read_signature;
+    use reading::refusal::Refusal;
     use signature::Signature;
     use std::alloc::{AllocError, Global};
     use std::test::Fail;
 
     // A text with '/' for a line end.
     fn unfold(heap: Global, text: &str) -> Result<Vec<u8>, AllocError> {
-        let mut bytes = Vec::new(heap);
-        for b in text.bytes() {
-            bytes.push(if b == b'/' { b'\n' } else { b })?;
-        }
-        Ok(bytes)
+        text.bytes()
+            .map(|b| if b == b'/' { b'\n' } else { b })
+            .collect(heap)
     }
 
     // The names with their arities.
     fn listed(heap: Global, signature: &Signature) -> Result<String, AllocError> {
         let mut list = String::new(heap);
-        for operator in 0..signature.len() {
-            if operator > 0 {
-                list.push_str(" ")?;
+        for operator in (0..=u8::MAX).take(signature.len()) {
+            if !list.is_empty() {
+                list.push(' ')?;
             }
-            let number = u8::try_from(operator).unwrap_or(0);
-            let name = std::str::from_utf8(signature.name(number)).unwrap_or("?");
-            list.push_str(name)?;
-            list.push_str(" ")?;
-            let arity = format!(in heap; "{}", signature.arity(number))?;
-            list.push_str(arity.as_str())?;
+            let name = std::str::from_utf8(signature.name(operator)).unwrap_or("?");
+            let arity = signature.arity(operator);
+            write!(list, "{name} {arity}")?;
         }
         Ok(list)
     }
@@ -40,10 +36,7 @@ mod tests {
     fn answer(heap: Global, text: &[u8]) -> Result<String, AllocError> {
         match read_signature(text) {
             Ok(signature) => listed(heap, &signature),
-            Err(fault) => {
-                let refusal = fault.refusal();
-                format!(in heap; "{refusal}")
-            }
+            Err(fault) => Refusal::from(fault).to_string(heap),
         }
     }
 

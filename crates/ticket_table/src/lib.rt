@@ -6,14 +6,15 @@ pub mod cases;
 #[cfg(test)]
 mod tests {
     use crate::cases::{CASES, FRONTS, LONG};
-    use console::line::Line;
-    use console::reply::replying::reply;
+    use console::line::{Ending, Line};
+    use console::reply::{reply, write_reply};
     use reading::refusal::{Layer, Refusal};
     use signature::Signature;
     use std::alloc::{AllocError, Global};
+    use std::io::BufReader;
     use std::test::Fail;
 
-    fn declared() -> Signature {
+    fn declared() -> Result<Signature, Fail> {
         let mut signature = Signature::new();
         let names: [(&[u8], u8); 6] = [
             (b"nil", 0),
@@ -23,13 +24,11 @@ mod tests {
             (b"abcdefghijkl", 1),
             (b"x1y2", 0),
         ];
-        let mut operator = 0u8;
-        for (name, arity) in names {
-            let _ = signature.declare(name);
-            signature.rank(operator, arity);
-            operator = operator.wrapping_add(1);
+        for (operator, (name, arity)) in (0..=u8::MAX).zip(names) {
+            signature.declare(name)?;
+            signature.rank(operator, arity)?;
         }
-        signature
+        Ok(signature)
     }
 
     fn answer(heap: Global, signature: &Signature, text: &[u8]) -> Result<String, AllocError> {
@@ -38,13 +37,15 @@ mod tests {
             line.push(*b);
         }
         let mut buffer = [0; 4096];
-        let reply = reply(signature, &line, &mut buffer);
-        format!(in heap; "{reply}")
+        match reply(signature, &line, &mut buffer) {
+            Ok(ticket) => format!(in heap; "{ticket}"),
+            Err(refusal) => format!(in heap; "{refusal}"),
+        }
     }
 
     #[test]
     fn every_case_is_answered(rt: HostRuntime) -> Result<(), Fail> {
-        let signature = declared();
+        let signature = declared()?;
         for case in CASES.split('\n') {
             let (text, expected) = case.split_once('|').ok_or("no bar")?;
             let found = answer(rt.alloc(), &signature, text.as_bytes())?;
@@ -55,13 +56,11 @@ mod tests {
 
     #[test]
     fn every_front_is_refused(rt: HostRuntime) -> Result<(), Fail> {
-        let signature = declared();
-        let mut n = 0;
-        for (number, place) in FRONTS {
-            if n > LONG.len() {
-                return Err(Fail::new("more fronts than bytes"));
-            }
-            let found = answer(rt.alloc(), &signature, &LONG.as_bytes()[0..n])?;
+        let signature = declared()?;
+        assert_eq!(rt; FRONTS.len(), LONG.len());
+        for (n, (number, place)) in FRONTS.into_iter().enumerate() {
+            let front = LONG.as_bytes().get(..n).ok_or("more fronts than bytes")?;
+            let found = answer(rt.alloc(), &signature, front)?;
             let refusal = Refusal {
                 number,
                 layer: Layer::Text,
@@ -70,9 +69,7 @@ mod tests {
             };
             let expected = format!(in rt.alloc(); "{refusal}")?;
             assert_eq!(rt; found.as_str(), expected.as_str(), "{}", LONG);
-            n += 1;
         }
-        assert_eq!(rt; n, LONG.len());
         Ok(())
     }
 
@@ -92,19 +89,52 @@ mod tests {
     #[test]
     fn a_ticket_has_at_most_4096_bytes(rt: HostRuntime) -> Result<(), Fail> {
         let heap = rt.alloc();
-        let signature = declared();
+        let signature = declared()?;
         let longest = deep(heap, b"#12345")?;
         assert_eq!(rt; longest.len(), 4096);
         let found = answer(heap, &signature, longest.as_slice())?;
-        let text = std::str::from_utf8(longest.as_slice())
-            .ok()
-            .ok_or("no text")?;
+        let text = std::str::from_utf8(longest.as_slice())?;
         let expected = format!(in heap; "ticket 819 {text}")?;
         assert_eq!(rt; found.as_str(), expected.as_str(), "4096 bytes");
         let longer = deep(heap, b"#123456")?;
         assert_eq!(rt; longer.len(), 4097);
         let refused = answer(heap, &signature, longer.as_slice())?;
         assert_eq!(rt; refused.as_str(), "refused 6 text 0 0", "4097 bytes");
+        Ok(())
+    }
+
+    #[test]
+    fn lines_are_read_across_chunks(rt: HostRuntime) -> Result<(), Fail> {
+        let text: &[u8] = b"nil\n\nneg(nil)";
+        let mut reader = BufReader::with_capacity(rt.alloc(), 3, text)?;
+        let mut line = Line::new();
+        let expected: [(Option<Ending>, &[u8]); 4] = [
+            (Some(Ending::LineEnd), b"nil"),
+            (Some(Ending::LineEnd), b""),
+            (Some(Ending::InputEnd), b"neg(nil)"),
+            (None, b""),
+        ];
+        for (ending, bytes) in expected {
+            assert_eq!(rt; line.read_from(&mut reader)?, ending);
+            assert_eq!(rt; line.text(), Some(bytes));
+        }
+        Ok(())
+    }
+
+    #[test]
+    fn an_answer_is_a_line(rt: HostRuntime) -> Result<(), Fail> {
+        let signature = declared()?;
+        let mut out = Vec::new(rt.alloc());
+        let mut line = Line::new();
+        for text in ["neg(#7)", "neg(#7"] {
+            line.clear();
+            let _ = line.take(text.as_bytes());
+            write_reply(&mut out, reply(&signature, &line, &mut [0; 4096]))?;
+        }
+        assert_eq!(rt;
+            out.as_slice(),
+            b"ticket 2 neg(#7)\nrefused 3 text 6 0\n".as_slice()
+        );
         Ok(())
     }
 }
