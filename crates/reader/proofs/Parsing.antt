@@ -1,8 +1,8 @@
 -- The parser from one state to the next.
 use Rattle.std.proofs.Common.{◌≡◌, ℕ, zero, suc, ◌<◌, ◌≤◌, List, [], ◌∷◌, length, None, Ok, Option, sym, refl, ap, ◌∙◌, arith, length-append}
 use Rattle.terms.specs.declared.layout.Layout.{Layout}
-use Rattle.terms.specs.Term.{Term, apply, nil}
-use Rattle.terms.specs.Nodes.{laid, with_next}
+use Rattle.terms.specs.Term.{Term, apply}
+use Rattle.terms.specs.Nodes.{with_next}
 use Rattle.terms.specs.Layout.{in_use, LaysOut}
 use Rattle.reading.specs.declared.token.At.{At}
 use Rattle.reader.specs.declared.parser.Frame.{Frame}
@@ -44,18 +44,7 @@ close_holds p rest frame at t m (within f a ts (suc n) k) h e l = absurd (omega 
 pub room_to_open : (f : ℕ) (a : At) (n : ℕ) (k : Context) (place : ℕ) → Roomy (opens f a n k) place → length (stack_frames k) < 2048
 room_to_open f a n k place r = omega (arith, r.0, r.1, fewer_frames k, length-append (stack_nodes k) (operator_node f (length (stack_nodes k)) ∷ []))
 
-pub open_holds : (p : Parser) (more : FixedVec Frame 2048) (frame : Frame) (f : ℕ) (k : Context) → Holds p (opens f frame.at frame.left k) → frame.node ≡ length (stack_nodes k) → content more ≡ frame ∷ content p.frames
-    → Holds (record { nodes = p.nodes; frames = more; phase = Wants }) (wants (within f frame.at nil frame.left k))
-open_holds p more frame f k h e q = record {
-  nodes_are = h.nodes_are;
-  frames_are = q ∙ (λ i. record { node = e i; at = frame.at; left = frame.left } ∷ h.frames_are i);
-  phase_is = refl;
-}
-
 -- ',' behind a term
-pub room_to_continue : (t : Term) (m : Option At) (k : Context) (place : ℕ) → Roomy (has t m k) place → length (stack_frames k) ≤ 2048
-room_to_continue t m k place r = omega (arith, r.0, r.1, fewer_frames k, length-append (stack_nodes k) (laid (length (stack_nodes k)) None t))
-
 pub continue_holds : (p : Parser) (linkd : Layout 2048) (rest more : FixedVec Frame 2048) (frame : Frame) (at : At) (root left next : ℕ) (t : Term) (m : Option At) (k : Context)
     → Holds p (has t m k) → root ≡ length (stack_nodes k) → content p.frames ≡ frame ∷ content rest → suc left ≡ frame.left → next ≡ length (in_use p.nodes) → in_use linkd ≡ with_next (in_use p.nodes) root next
     → content more ≡ record { node = frame.node; at = frame.at; left = left } ∷ content rest
