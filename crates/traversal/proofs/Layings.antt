@@ -16,7 +16,7 @@ use Rattle.traversal.proofs.Overlays.{puts_none, puts_both, puts_as, over_front}
 use Rattle.traversal.proofs.Texts.{row_le}
 
 -- the stack has room for the arguments of its top term
-pub room_for : (v : Answers) (item : Pending) (es : List Pending) (ts : Terms) → StandAll v (places (item ∷ es)) ts → symbols_in ts ≤ most_symbols → length (row_of v item.place) + length es ≤ 16384
+pub room_for : (v : Answers) (item : Pending) (es : List Pending) (ts : Terms) → StandAll v (places (item ∷ es)) ts → symbols_in ts ≤ most_symbols → length (row_of v item.place) + length es ≤ most_symbols
 unfolding most_symbols
 room_for v item es nil s few = absurd s
 room_for v item es (cons t ts) (s, all) few =

@@ -1,10 +1,10 @@
 -- Terms at the places of a stack.
-use Rattle.std.proofs.Common.{◌≡◌, ℕ, zero, suc, ◌+◌, ◌≤◌, List, [], ◌∷◌, ◌++◌, length, Some, None, Option, sym, refl, ap, ◌∙◌, subst, add-zero, arith}
+use Rattle.std.proofs.Common.{◌≡◌, ℕ, zero, suc, ◌+◌, ◌<◌, ◌≤◌, List, [], ◌∷◌, ◌++◌, length, Some, None, Option, sym, refl, ap, ◌∙◌, subst, add-zero, add-one, slice_index_or, drop, drop-cons, arith}
 use Rattle.terms.specs.declared.symbol.Symbol.{Symbol}
 use Rattle.terms.specs.declared.symbol.Symbol.TheVariants.{Variable, Instrument, Operator}
 use Rattle.terms.specs.Term.{Term, variable, instrument, apply, Terms, nil, cons, symbols, symbols_in}
 use Rattle.terms.specs.View.{Answers, Stands, StandFrom}
-use Rattle.traversal.specs.Rows.{ahead, row_from, row_of, StandAll, Many}
+use Rattle.traversal.specs.Rows.{ahead, row_from, row_of, padded, in_front, filled, StandAll, Many}
 
 pub never : {X : Type 0} (o : Option X) (x : X) → o ≡ None → o ≡ Some x → ⊥
 never o x e h = let z : ◌≡◌ {A = ℕ} 0 1 = cc in omega arith
@@ -108,3 +108,31 @@ closed v p f before m is few (ws, s, e) =
 -- where no argument is given, the row is empty
 pub row_none : (v : Answers) (p : ℕ) → v.argument p 0 ≡ None → row_of v p ≡ []
 row_none v p e = ap (λ o. ahead o (row_from v p 1 2)) e
+
+-- a row of at most three has so many places
+ahead_short : (o : Option ℕ) (ps : List ℕ) (n : ℕ) → length ps ≤ n → length (ahead o ps) ≤ suc n
+ahead_short None ps n h = omega arith
+ahead_short (Some q) ps n h = omega arith
+
+pub row_short : (v : Answers) (p n k : ℕ) → length (row_from v p k n) ≤ n
+row_short v p zero k = omega arith
+row_short v p (suc n) k = ahead_short (v.argument p k) (row_from v p (suc k) n) n (row_short v p n (suc k))
+
+-- the slots of a row, the last first, are put before what was there
+pub filled_padded : (row : List ℕ) (xs : List (Option ℕ)) (ps : List ℕ) → xs ≡ padded row → length row ≤ 3 → filled (slice_index_or xs 2 None ∷ slice_index_or xs 1 None ∷ slice_index_or xs 0 None ∷ []) ps ≡ row ++ ps
+filled_padded [] xs ps e few = rw e refl
+filled_padded (p ∷ []) xs ps e few = rw e refl
+filled_padded (p ∷ q ∷ []) xs ps e few = rw e refl
+filled_padded (p ∷ q ∷ r ∷ []) xs ps e few = rw e refl
+filled_padded (p ∷ q ∷ r ∷ s ∷ row) xs ps e few = absurd (let z : ⊥ = omega arith in z)
+
+pub filled_more : (os : List (Option ℕ)) (i : ℕ) (o : Option ℕ) (ps qs t : List ℕ) → i < length os → slice_index_or os i None ≡ o → qs ≡ in_front o ps → filled (drop i os) ps ≡ t → filled (drop (i + 1) os) qs ≡ t
+filled_more os i o ps qs t h is put e =
+    ap (filled (drop (i + 1) os)) (put ∙ ap (λ x. in_front x ps) (sym is))
+    ∙ sym (ap (λ l. filled l ps) (drop-cons os i None h ∙ ap (λ k. slice_index_or os i None ∷ drop k os) (sym (add-one i))))
+    ∙ e
+
+pub filled_long : (os : List (Option ℕ)) (ps : List ℕ) → length ps ≤ length (filled os ps)
+filled_long [] ps = omega arith
+filled_long (None ∷ os) ps = filled_long os ps
+filled_long (Some p ∷ os) ps = let ih = filled_long os (p ∷ ps) in omega arith

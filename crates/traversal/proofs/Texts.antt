@@ -1,16 +1,19 @@
 -- The texts of pending terms.
-use Rattle.std.proofs.Common.{◌≡◌, ℕ, zero, suc, ◌+◌, ◌<◌, ◌≤◌, List, [], ◌∷◌, ◌++◌, length, replicate, Some, None, Option, sym, refl, ap, ◌∙◌, subst, add-one, arith}
+use Rattle.std.proofs.Common.{◌≡◌, ℕ, zero, suc, ◌+◌, ◌<◌, ◌≤◌, Bool, true, false, not, is_some, List, [], ◌∷◌, ◌++◌, length, replicate, Some, None, Option, sym, refl, ap, ◌∙◌, subst, add-one, get_or, drop, arith}
+use Rattle.std.proofs.lemmas.Bool.{true≢false, false≢true}
 use Rattle.std.proofs.lemmas.List.{append_assoc, append-nil}
 use Rattle.terms.specs.Term.{Term, variable, instrument, apply, Terms, nil, cons, symbols, symbols_in}
 use Rattle.terms.specs.Signature.{Sig}
 use Rattle.terms.specs.Text.{text_of, arguments_text, others_text}
 use Rattle.terms.specs.View.{Answers, Stands, StandFrom}
+use Rattle.traversal.specs.declared.pending.Lead.{Lead}
+use Rattle.traversal.specs.declared.pending.Lead.TheVariants.{Opening, Comma}
 use Rattle.traversal.specs.declared.pending.Pending.{Pending}
-use Rattle.traversal.specs.Rows.{ahead, row_from, row_of, StandAll}
+use Rattle.traversal.specs.Rows.{ahead, row_from, row_of, padded, StandAll}
 use Rattle.traversal.specs.declared.write.writer.Writer.{Writer}
 use Rattle.traversal.specs.Bytes.{Puts}
-use Rattle.traversal.specs.Pendings.{lead_text, symbol_text, places, pending_text, weight, others, children, Taken, Stepped}
-use Rattle.traversal.proofs.Rows.{top, under, both, symbols_under, symbols_both, stands_top, stands_under, from_to_all, join}
+use Rattle.traversal.specs.Pendings.{lead_text, symbol_text, places, pending_text, weight, others, children, spread, Taken, Stepped}
+use Rattle.traversal.proofs.Rows.{top, under, both, symbols_under, symbols_both, stands_top, stands_under, from_to_all, join, row_short}
 
 text_under : (sig : Sig) (t : Term) → text_of sig t ≡ symbol_text sig (Some (top t)) ++ arguments_text sig (under t)
 text_under sig (variable x) = refl
@@ -25,14 +28,6 @@ row_le v p (suc n) k (cons t ts) s =
     let ih = row_le v p n (suc k) ts s.3 in
     let one = symbols_under t in
     subst (λ o. length (ahead o (row_from v p (suc k) n)) ≤ symbols t + symbols_in ts) (sym s.1) (omega arith)
-
-ahead_short : (o : Option ℕ) (ps : List ℕ) (n : ℕ) → length ps ≤ n → length (ahead o ps) ≤ suc n
-ahead_short None ps n h = omega arith
-ahead_short (Some q) ps n h = omega arith
-
-row_short : (v : Answers) (p n k : ℕ) → length (row_from v p k n) ≤ n
-row_short v p zero k = omega arith
-row_short v p (suc n) k = ahead_short (v.argument p k) (row_from v p (suc k) n) n (row_short v p n (suc k))
 
 -- the arguments among the pending terms: where they stand, and what they weigh
 places_others : (c : ℕ) (ps : List ℕ) (es : List Pending) → places (others c ps ++ es) ≡ ps ++ places es
@@ -121,27 +116,61 @@ taken_bare sig v item es few none (cons t us) (s, all) =
           ∙ sym (append_assoc (head_text sig v item) (replicate c 41) (pending_text sig es us)),
     )
 
-pub stepped_arguments : (sig : Sig) (v : Answers) (item : Pending) (row : List ℕ) (before after : List Pending) (old new : Writer) → Puts (head_text sig v item) old new → new.len ≤ old.len + length (lead_text item.lead) + 12 → row ≡ row_of v item.place → 0 < length row → after ≡ children (item.closings + 1) row ++ before → v.argument item.place 3 ≡ None → Stepped sig v (item ∷ before) after old new
-stepped_arguments sig v item row before after old new puts short is some put few =
+pub stepped_arguments : (sig : Sig) (v : Answers) (item : Pending) (before after : List Pending) (old new : Writer) → Puts (head_text sig v item) old new → new.len ≤ old.len + length (lead_text item.lead) + 12 → 0 < length (row_of v item.place) → after ≡ children (item.closings + 1) (row_of v item.place) ++ before → v.argument item.place 3 ≡ None → Stepped sig v (item ∷ before) after old new
+stepped_arguments sig v item before after old new puts short some put few =
+    let row = row_of v item.place in
     let three = row_short v item.place 3 0 in
-    let same = ap length is in
     let all = ap weight put in
     let sum = weight_children (item.closings + 1) row before some in
     record {
       bytes = head_text sig v item;
       puts = puts;
-      taken =
-          subst (λ l. Taken sig v (head_text sig v item) (item ∷ before) l)
-          (sym (put ∙ ap (λ l. children (item.closings + 1) l ++ before) is))
-          (taken_arguments sig v item before few (omega arith));
+      taken = subst (λ l. Taken sig v (head_text sig v item) (item ∷ before) l) (sym put) (taken_arguments sig v item before few some);
       little = omega arith;
     }
 
-pub stepped_bare : (sig : Sig) (v : Answers) (item : Pending) (row : List ℕ) (before : List Pending) (old new : Writer) → Puts (head_text sig v item ++ replicate item.closings 41) old new → new.len ≤ old.len + length (lead_text item.lead) + 12 + item.closings → row ≡ row_of v item.place → length row ≡ 0 → v.argument item.place 3 ≡ None → Stepped sig v (item ∷ before) before old new
-stepped_bare sig v item (p ∷ ps) before old new puts short is none few = absurd (let z : ⊥ = omega arith in z)
-stepped_bare sig v item [] before old new puts short is none few = record {
+pub stepped_bare : (sig : Sig) (v : Answers) (item : Pending) (before : List Pending) (old new : Writer) → Puts (head_text sig v item ++ replicate item.closings 41) old new → new.len ≤ old.len + length (lead_text item.lead) + 12 + item.closings → row_of v item.place ≡ [] → v.argument item.place 3 ≡ None → Stepped sig v (item ∷ before) before old new
+stepped_bare sig v item before old new puts short none few = record {
   bytes = head_text sig v item ++ replicate item.closings 41;
   puts = puts;
-  taken = taken_bare sig v item before few (sym is);
+  taken = taken_bare sig v item before few none;
   little = omega arith;
 }
+
+-- whether the first slot of a row is free
+first_slot : (p : ℕ) (ps : List ℕ) → get_or (padded (p ∷ ps)) 0 None ≡ Some p
+first_slot p [] = refl
+first_slot p (q ∷ []) = refl
+first_slot p (q ∷ r ∷ ps) = refl
+
+pub first_free : (row : List ℕ) (slots : List (Option ℕ)) (r : Bool) → slots ≡ padded row → is_some (get_or slots 0 None) ≡ not r → r ≡ true → row ≡ []
+first_free [] slots r e is h = refl
+first_free (p ∷ ps) slots r e is h =
+    absurd (true≢false (sym (ap is_some (ap (λ l. get_or l 0 None) e ∙ first_slot p ps)) ∙ is ∙ ap not h))
+
+pub first_taken : (row : List ℕ) (slots : List (Option ℕ)) (r : Bool) → slots ≡ padded row → is_some (get_or slots 0 None) ≡ not r → r ≡ false → 0 < length row
+first_taken [] slots r e is h = absurd (false≢true (sym (ap is_some (ap (λ l. get_or l 0 None) e)) ∙ is ∙ ap not h))
+first_taken (p ∷ ps) slots r e is h = omega arith
+
+-- the arguments that are still to be put onto the stack, and those that are on it
+spread_long : (c : ℕ) (xs : List (Option ℕ × Lead)) (es : List Pending) → length es ≤ length (spread c xs es)
+spread_long c [] es = omega arith
+spread_long c ((None, l) ∷ xs) es = spread_long c xs es
+spread_long c ((Some p, l) ∷ xs) es = let ih = spread_long 0 xs (record { place = p; lead = Some l; closings = c } ∷ es) in omega arith
+
+pub spread_more : (c : ℕ) (xs : List (Option ℕ × Lead)) (i p : ℕ) (d : Option ℕ × Lead) (es : List Pending) → i < length xs → (get_or xs i d).0 ≡ Some p → length es < length (spread c (drop i xs) es)
+spread_more c [] i p d es h e = absurd (let z : ⊥ = omega arith in z)
+spread_more c ((None, k) ∷ xs) zero p d es h e = let z : ◌≡◌ {A = ℕ} 0 1 = cc in omega arith
+spread_more c ((Some q, k) ∷ xs) zero p d es h e = let ih = spread_long 0 xs (record { place = q; lead = Some k; closings = c } ∷ es) in omega arith
+spread_more c (x ∷ xs) (suc i) p d es h e = spread_more c xs i p d es (omega arith) e
+
+-- the slots of a row as they are gone through
+abbrev pub led : List (Option ℕ) → List (Option ℕ × Lead)
+led slots = (get_or slots 2 None, Comma) ∷ (get_or slots 1 None, Comma) ∷ (get_or slots 0 None, Opening) ∷ []
+
+pub spread_length : (c : ℕ) (row : List ℕ) (slots : List (Option ℕ)) (es : List Pending) → slots ≡ padded row → length row ≤ 3 → length (spread c (led slots) es) ≡ length row + length es
+spread_length c [] slots es e few = rw e (omega arith)
+spread_length c (p ∷ []) slots es e few = rw e (omega arith)
+spread_length c (p ∷ q ∷ []) slots es e few = rw e (omega arith)
+spread_length c (p ∷ q ∷ r ∷ []) slots es e few = rw e (omega arith)
+spread_length c (p ∷ q ∷ r ∷ s ∷ row) slots es e few = absurd (let z : ⊥ = omega arith in z)

@@ -1,5 +1,5 @@
 -- What one visit of the count does.
-use Rattle.std.proofs.Common.{◌≡◌, ℕ, ◌<◌, ◌≤◌, ◌⊎◌, List, [], ◌∷◌, ◌++◌, length, Some, None, Ok, Err, Result, sym, refl, ap, ◌∙◌, subst, inl, inr, arith, length-append}
+use Rattle.std.proofs.Common.{◌≡◌, ℕ, ◌+◌, ◌<◌, ◌≤◌, ◌⊎◌, List, ◌∷◌, ◌++◌, length, Some, None, Option, Ok, Err, Result, sym, refl, ap, ◌∙◌, subst, inl, inr, slice_index_or, drop, arith, length-append}
 use Rattle.terms.specs.declared.symbol.Symbol.{Symbol}
 use Rattle.terms.specs.declared.symbol.Symbol.TheVariants.{Variable, Instrument, Operator}
 use Rattle.terms.specs.Term.{Term, variable, instrument, apply, nil, cons, symbols}
@@ -7,17 +7,18 @@ use Rattle.terms.specs.View.{Answers, Stands}
 use Rattle.traversal.specs.Walks.{most_symbols}
 use Rattle.std.specs.Result.{IsErr, result_ok}
 use Rattle.fixed_vec.specs.declared.Full.{Full}
-use Rattle.traversal.specs.Rows.{row_of, Many, PutBefore, Visited}
-use Rattle.traversal.proofs.Rows.{never, top, stands_top, length_le_symbols, opened, closed, row_none}
+use Rattle.traversal.specs.Rows.{row_of, filled, Many, PutBefore, Visited}
+use Rattle.traversal.proofs.Rows.{never, top, stands_top, length_le_symbols, opened, closed, row_none, filled_more, filled_long}
 
 -- no room for the rest of a row
-pub refused : (r : Result (Unit {0}) Full) (row rest left mid before after : List ℕ) (x : ℕ) → IsErr r → left ≡ rest ++ x ∷ [] → left ++ mid ≡ row ++ before → 16384 ≤ length mid → PutBefore row before after r
+pub refused : (r : Result (Unit {0}) Full) (row mid before after : List ℕ) (os : List (Option ℕ)) (i x : ℕ) → IsErr r → i < length os → slice_index_or os i None ≡ Some x → filled (drop i os) mid ≡ row ++ before → 16384 ≤ length mid → PutBefore row before after r
 unfolding most_symbols
-refused (Ok u) row rest left mid before after x is last e full = cc
-refused (Err u) row rest left mid before after x is last e full =
-    let long = ap length e in
-    let one = ap length last in
-    omega (arith, length-append left mid, length-append rest (x ∷ []), length-append row before)
+refused (Ok u) row mid before after os i x is h at e full = cc
+refused (Err u) row mid before after os i x is h at e full =
+    let more = filled_more os i (Some x) mid (x ∷ mid) (row ++ before) h at refl e in
+    let long = filled_long (drop (i + 1) os) (x ∷ mid) in
+    let all = ap length more in
+    omega (arith, length-append row before)
 
 pub visited_operator : (r : Result (Unit {0}) Full) (v : Answers) (p f : ℕ) (before after : List ℕ) → v.symbol p ≡ Some (Operator f) → v.argument p 3 ≡ None → PutBefore (row_of v p) before after r → Visited v (p ∷ before) after (result_ok r)
 visited_operator (Ok u) v p f before after is few put = (

@@ -10,7 +10,7 @@ use Rattle.traversal.specs.declared.pending.Lead.{Lead}
 use Rattle.traversal.specs.declared.pending.Lead.TheVariants.{Opening, Comma}
 use Rattle.traversal.specs.declared.pending.Pending.{Pending}
 use Rattle.traversal.specs.Walks.{most_symbols}
-use Rattle.traversal.specs.Rows.{StandAll}
+use Rattle.traversal.specs.Rows.{padded, StandAll}
 use Rattle.traversal.specs.declared.write.writer.Writer.{Writer}
 use Rattle.traversal.specs.Bytes.{Puts}
 
@@ -56,6 +56,19 @@ abbrev pub children : ℕ → List ℕ → List Pending
 children c [] = []
 children c (p ∷ []) = record { place = p; lead = Some Opening; closings = c } ∷ []
 children c (p ∷ q ∷ ps) = record { place = p; lead = Some Opening; closings = 0 } ∷ others c (q ∷ ps)
+
+-- what stands in slots, the last first and each with its lead, is put before what was there, with so many closing parentheses after the last
+abbrev pub spread : ℕ → List (Option ℕ × Lead) → List Pending → List Pending
+spread c [] es = es
+spread c ((None, l) ∷ xs) es = spread c xs es
+spread c ((Some p, l) ∷ xs) es = spread 0 xs (record { place = p; lead = Some l; closings = c } ∷ es)
+
+-- the row, of at most three, stands in the slots, and there is room for it on the stack
+pub record Fitting (slots : List (Option ℕ)) (stack : List Pending) : Type 0 where
+  pub row : List ℕ
+  pub is : slots ≡ padded row
+  pub few : length row ≤ 3
+  pub room : length row + length stack ≤ most_symbols
 
 -- writing these bytes takes one symbol from the pending terms
 abbrev pub Taken : Sig → Answers → List ℕ → List Pending → List Pending → Type 0

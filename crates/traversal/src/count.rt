@@ -46,9 +46,12 @@ fn push_arguments<V: TermView>(
     ensures row { PutBefore (row_of (V.answers view.now) place) (content stack.old) (content stack.new) result }
     ensures few { (V.answers view.now).argument place 3 ≡ None }
 {
-    let mut row = arguments(view, place);
-    while let Some(argument) = row.pop() {
-        stack.push(argument)?;
+    let [first, second, third] = arguments(view, place);
+    for slot in [third, second, first] {
+        match slot {
+            Some(argument) => stack.push(argument)?,
+            None => {}
+        }
     }
     Ok(())
 }

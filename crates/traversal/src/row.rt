@@ -1,23 +1,18 @@
 ghost use Rattle.std.specs.Prelude.{◌≡◌, None};
-ghost use Rattle.fixed_vec.specs.FixedVec.{items};
-ghost use Rattle.traversal.specs.Rows.{row_of};
+ghost use Rattle.traversal.specs.Rows.{row_of, padded};
 
-use fixed_vec::FixedVec;
 use terms::view::TermView;
 
-// The places of the arguments of a place, in order.
-pub fn arguments<V: TermView>(view: &V, place: u16) -> FixedVec<u16, 3>
-    ensures row { items result ≡ row_of (V.answers view.now) place }
+// The places of the arguments of a place, in order, and nothing behind the last.
+pub fn arguments<V: TermView>(view: &V, place: u16) -> [Option<u16>; 3]
+    ensures row { result ≡ padded (row_of (V.answers view.now) place) }
     ensures few { (V.answers view.now).argument place 3 ≡ None }
 {
-    let mut row: FixedVec<u16, 3> = FixedVec::new(0);
-    for n in 0..3 {
-        let Some(argument) = view.argument(place, n) else {
-            break;
-        };
-        let Ok(()) = row.push(argument) else {
-            unreachable()
-        };
-    }
-    row
+    let Some(first) = view.argument(place, 0) else {
+        return [None; 3];
+    };
+    let Some(second) = view.argument(place, 1) else {
+        return [Some(first), None, None];
+    };
+    [Some(first), Some(second), view.argument(place, 2)]
 }

@@ -1,11 +1,12 @@
-ghost use Rattle.std.specs.Prelude.{◌≡◌, ◌+◌, ◌^◌, ◌<◌, ◌≤◌, ◌∷◌, ◌++◌, length};
+ghost use Rattle.std.specs.Prelude.{◌≡◌, ℕ, ◌≤◌, List, ◌∷◌, ◌++◌, length};
 ghost use Rattle.terms.specs.Term.{Term};
 ghost use Rattle.terms.specs.Text.{text_of};
 ghost use Rattle.signature.specs.Declaring.{sig_of};
 ghost use Rattle.traversal.specs.Walks.{Written};
-ghost use Rattle.fixed_vec.specs.FixedVec.{items, content};
+ghost use Rattle.fixed_vec.specs.FixedVec.{content};
+ghost use Rattle.traversal.specs.Rows.{padded};
 ghost use Rattle.traversal.specs.Bytes.{Lays};
-ghost use Rattle.traversal.specs.Pendings.{children, Layable, Stepped, OfSize, SomeOfSize};
+ghost use Rattle.traversal.specs.Pendings.{children, Fitting, Layable, Stepped, OfSize, SomeOfSize};
 
 use crate::MOST;
 use crate::count::count_symbols;
@@ -84,7 +85,7 @@ fn lay_symbol<V: TermView>(
     writer.put_lead(item.lead);
     writer.put_symbol(signature, view.symbol(item.place));
     let row = arguments(view, item.place);
-    if row.is_empty() {
+    if row[0].is_none() {
         writer.put_closings(item.closings);
     } else {
         push_arguments(row, item.closings + 1, stack);
@@ -92,16 +93,19 @@ fn lay_symbol<V: TermView>(
 }
 
 // Puts arguments onto the stack, the first on top, with so many closing parentheses after the last.
-fn push_arguments(mut row: FixedVec<u16, 3>, closings: u32, stack: &mut FixedVec<Pending, MOST>)
-    requires { length (items row) + length (content stack.old) ≤ 16384 }
-    ensures { content stack.new ≡ children closings (items row) ++ content stack.old }
+fn push_arguments(row: [Option<u16>; 3], closings: u32, stack: &mut FixedVec<Pending, MOST>)
+    requires { Fitting row (content stack.old) }
+    ensures { (ps : List ℕ) → row ≡ padded ps → length ps ≤ 3 → content stack.new ≡ children closings ps ++ content stack.old }
 {
+    let [first, second, third] = row;
     let mut after = closings;
-    while let Some(place) = row.pop() {
-        let lead = if row.is_empty() {
-            Lead::Opening
-        } else {
-            Lead::Comma
+    for (slot, lead) in [
+        (third, Lead::Comma),
+        (second, Lead::Comma),
+        (first, Lead::Opening),
+    ] {
+        let Some(place) = slot else {
+            continue;
         };
         let item = Pending {
             place,

@@ -1,39 +1,43 @@
-use Rattle.std.proofs.Common.{◌≡◌, ℕ, ◌<◌, length, ap, arith}
+use Rattle.std.proofs.Common.{ℕ, ap, arith}
 use lib.ListN.{length-replicate}
-use Rattle.std.proofs.lemmas.Grind.{common_steps}
 use Rattle.signature.specs.Declaring.{sig_of}
-use Rattle.fixed_vec.specs.FixedVec.{items, content}
+use Rattle.fixed_vec.specs.FixedVec.{content}
+use Rattle.traversal.specs.Rows.{row_of}
 use Rattle.traversal.specs.Pendings.{symbol_text}
+use Rattle.traversal.proofs.Rows.{row_short}
 use Rattle.traversal.proofs.Overlays.{puts_both, puts_as}
-use Rattle.traversal.proofs.Texts.{stepped_arguments, stepped_bare}
+use Rattle.traversal.proofs.Texts.{stepped_arguments, stepped_bare, first_free, first_taken}
 use Rattle.traversal.proofs.Layings.{room_for}
 use Rattle.traversal.proofs.write.lay_symbol.Goals as goal
 
 pub push_arguments-requires : goal.push_arguments-requires
 push_arguments-requires g c =
-    let room = room_for (g.V.TermView.answers c.args.view.now) c.args.item (content c.args.stack.now) c.requires.terms c.requires.stand c.requires.few in
-    omega (arith, room, ap length c.arguments-row.ensures.row)
+    let v = g.V.TermView.answers c.args.view.now in
+    record {
+      row = row_of v c.args.item.place;
+      is = c.arguments-row.ensures.row;
+      few = row_short v c.args.item.place 3 0;
+      room = room_for v c.args.item (content c.args.stack.now) c.requires.terms c.requires.stand c.requires.few;
+    }
 
-pub returns-else-is_empty : goal.returns-else-is_empty
-returns-else-is_empty g c =
+pub returns-else-is_none : goal.returns-else-is_none
+returns-else-is_none g c =
+    let row = row_of (g.V.TermView.answers c.args.view.now) c.args.item.place in
     let told = puts_as (ap (symbol_text (sig_of c.args.signature.now)) c.symbol.ensures) c.put_symbol.ensures.text in
-    let some : 0 < length (items c.arguments-row.result) = grind (arith, common_steps) in
-    stepped_arguments _ _ c.args.item _ _ _ _ _
+    stepped_arguments _ _ c.args.item _ _ _ _
     (puts_both c.put_lead.ensures told)
     (omega (arith, c.put_lead.ensures.lays.end, c.put_symbol.ensures.short))
-    c.arguments-row.ensures.row
-    some
-    c.push_arguments.ensures
+    (first_taken row c.arguments-row.result c.is_none.result c.arguments-row.ensures.row c.is_none.ensures c.if-is_none.false)
+    (c.push_arguments.ensures row c.arguments-row.ensures.row (row_short (g.V.TermView.answers c.args.view.now) c.args.item.place 3 0))
     c.arguments-row.ensures.few
 
-pub returns-then-is_empty : goal.returns-then-is_empty
-returns-then-is_empty g c =
+pub returns-then-is_none : goal.returns-then-is_none
+returns-then-is_none g c =
+    let row = row_of (g.V.TermView.answers c.args.view.now) c.args.item.place in
     let told = puts_as (ap (symbol_text (sig_of c.args.signature.now)) c.symbol.ensures) c.put_symbol.ensures.text in
     let long = length-replicate {A = ℕ} c.args.item.closings 41 in
-    let none : length (items c.arguments-row.result) ≡ 0 = grind (arith, common_steps) in
-    stepped_bare _ _ c.args.item _ _ _ _
+    stepped_bare _ _ c.args.item _ _ _
     (puts_both (puts_both c.put_lead.ensures told) c.put_closings.ensures)
     (omega (arith, c.put_lead.ensures.lays.end, c.put_symbol.ensures.short, c.put_closings.ensures.lays.end))
-    c.arguments-row.ensures.row
-    none
+    (first_free row c.arguments-row.result c.is_none.result c.arguments-row.ensures.row c.is_none.ensures c.if-is_none.true)
     c.arguments-row.ensures.few
