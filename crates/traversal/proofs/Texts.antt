@@ -1,7 +1,10 @@
 -- The texts of pending terms.
-use Rattle.std.proofs.Common.{◌≡◌, ℕ, zero, suc, ◌+◌, ◌<◌, ◌≤◌, Bool, true, false, not, is_some, List, [], ◌∷◌, ◌++◌, length, replicate, Some, None, Option, sym, refl, ap, ◌∙◌, subst, add-one, get_or, drop, arith}
+use Rattle.std.proofs.Common.{◌≡◌, ℕ, zero, suc, ◌+◌, ◌<◌, ◌≤◌, Bool, true, false, not, is_some, List, [], ◌∷◌, ◌++◌, length, replicate, Some, None, Option, Ok, Err, Result, sym, refl, ap, ◌∙◌, subst, add-one, get_or, drop, arith}
 use Rattle.std.proofs.lemmas.Bool.{true≢false, false≢true}
 use Rattle.std.proofs.lemmas.List.{append_assoc, append-nil}
+use Rattle.std.specs.Result.{IsErr}
+use Rattle.fixed_vec.specs.declared.Full.{Full}
+use Rattle.traversal.specs.Walks.{most_symbols}
 use Rattle.terms.specs.Term.{Term, variable, instrument, apply, Terms, nil, cons, symbols, symbols_in}
 use Rattle.terms.specs.Signature.{Sig}
 use Rattle.terms.specs.Text.{text_of, arguments_text, others_text}
@@ -12,7 +15,7 @@ use Rattle.traversal.specs.declared.pending.Pending.{Pending}
 use Rattle.traversal.specs.Rows.{ahead, row_from, row_of, padded, StandAll}
 use Rattle.traversal.specs.declared.write.writer.Writer.{Writer}
 use Rattle.traversal.specs.Bytes.{Puts}
-use Rattle.traversal.specs.Pendings.{lead_text, symbol_text, places, pending_text, weight, others, children, spread, Taken, Stepped}
+use Rattle.traversal.specs.Pendings.{lead_text, symbol_text, places, pending_text, weight, others, children, heaped, Spread, Taken, Stepped}
 use Rattle.traversal.proofs.Rows.{top, under, both, symbols_under, symbols_both, stands_top, stands_under, from_to_all, join, row_short}
 
 text_under : (sig : Sig) (t : Term) → text_of sig t ≡ symbol_text sig (Some (top t)) ++ arguments_text sig (under t)
@@ -153,24 +156,33 @@ first_taken [] slots r e is h = absurd (false≢true (sym (ap is_some (ap (λ l.
 first_taken (p ∷ ps) slots r e is h = omega arith
 
 -- the arguments that are still to be put onto the stack, and those that are on it
-spread_long : (c : ℕ) (xs : List (Option ℕ × Lead)) (es : List Pending) → length es ≤ length (spread c xs es)
-spread_long c [] es = omega arith
-spread_long c ((None, l) ∷ xs) es = spread_long c xs es
-spread_long c ((Some p, l) ∷ xs) es = let ih = spread_long 0 xs (record { place = p; lead = Some l; closings = c } ∷ es) in omega arith
+heaped_long : (c : ℕ) (xs : List (Option ℕ × Lead)) (es : List Pending) → length es ≤ length (heaped c xs es)
+heaped_long c [] es = omega arith
+heaped_long c ((None, l) ∷ xs) es = heaped_long c xs es
+heaped_long c ((Some p, l) ∷ xs) es = let ih = heaped_long 0 xs (record { place = p; lead = Some l; closings = c } ∷ es) in omega arith
 
-pub spread_more : (c : ℕ) (xs : List (Option ℕ × Lead)) (i p : ℕ) (d : Option ℕ × Lead) (es : List Pending) → i < length xs → (get_or xs i d).0 ≡ Some p → length es < length (spread c (drop i xs) es)
-spread_more c [] i p d es h e = absurd (let z : ⊥ = omega arith in z)
-spread_more c ((None, k) ∷ xs) zero p d es h e = let z : ◌≡◌ {A = ℕ} 0 1 = cc in omega arith
-spread_more c ((Some q, k) ∷ xs) zero p d es h e = let ih = spread_long 0 xs (record { place = q; lead = Some k; closings = c } ∷ es) in omega arith
-spread_more c (x ∷ xs) (suc i) p d es h e = spread_more c xs i p d es (omega arith) e
+pub heaped_more : (c : ℕ) (xs : List (Option ℕ × Lead)) (i p : ℕ) (d : Option ℕ × Lead) (es : List Pending) → i < length xs → (get_or xs i d).0 ≡ Some p → length es < length (heaped c (drop i xs) es)
+heaped_more c [] i p d es h e = absurd (let z : ⊥ = omega arith in z)
+heaped_more c ((None, k) ∷ xs) zero p d es h e = let z : ◌≡◌ {A = ℕ} 0 1 = cc in omega arith
+heaped_more c ((Some q, k) ∷ xs) zero p d es h e = let ih = heaped_long 0 xs (record { place = q; lead = Some k; closings = c } ∷ es) in omega arith
+heaped_more c (x ∷ xs) (suc i) p d es h e = heaped_more c xs i p d es (omega arith) e
 
 -- the slots of a row as they are gone through
 abbrev pub led : List (Option ℕ) → List (Option ℕ × Lead)
 led slots = (get_or slots 2 None, Comma) ∷ (get_or slots 1 None, Comma) ∷ (get_or slots 0 None, Opening) ∷ []
 
-pub spread_length : (c : ℕ) (row : List ℕ) (slots : List (Option ℕ)) (es : List Pending) → slots ≡ padded row → length row ≤ 3 → length (spread c (led slots) es) ≡ length row + length es
-spread_length c [] slots es e few = rw e (omega arith)
-spread_length c (p ∷ []) slots es e few = rw e (omega arith)
-spread_length c (p ∷ q ∷ []) slots es e few = rw e (omega arith)
-spread_length c (p ∷ q ∷ r ∷ []) slots es e few = rw e (omega arith)
-spread_length c (p ∷ q ∷ r ∷ s ∷ row) slots es e few = absurd (let z : ⊥ = omega arith in z)
+pub heaped_length : (c : ℕ) (row : List ℕ) (slots : List (Option ℕ)) (es : List Pending) → slots ≡ padded row → length row ≤ 3 → length (heaped c (led slots) es) ≡ length row + length es
+heaped_length c [] slots es e few = rw e (omega arith)
+heaped_length c (p ∷ []) slots es e few = rw e (omega arith)
+heaped_length c (p ∷ q ∷ []) slots es e few = rw e (omega arith)
+heaped_length c (p ∷ q ∷ r ∷ []) slots es e few = rw e (omega arith)
+heaped_length c (p ∷ q ∷ r ∷ s ∷ row) slots es e few = absurd (let z : ⊥ = omega arith in z)
+
+pub not_spread : (r : Result (Unit {0}) Full) (c k i p : ℕ) (slots : List (Option ℕ)) (d : Option ℕ × Lead) (before mid after : List Pending) → IsErr r → i < 3 → (get_or (led slots) i d).0 ≡ Some p → heaped k (drop i (led slots)) mid ≡ heaped c (led slots) before → 16384 ≤ length mid → Spread c slots before after r
+unfolding most_symbols
+not_spread (Ok u) c k i p slots d before mid after is h at e full = absurd (true≢false (sym is))
+not_spread (Err u) c k i p slots d before mid after is h at e full = λ row held few.
+    let more = heaped_more k (led slots) i p d mid h at in
+    let all = heaped_length c row slots before held few in
+    let same = ap length e in
+    omega arith

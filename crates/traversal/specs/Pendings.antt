@@ -1,5 +1,6 @@
 -- The texts of terms that are still to be written.
-use Rattle.std.specs.Prelude.{◌≡◌, ℕ, suc, ◌+◌, ◌*◌, ◌%◌, ◌≤◌, List, [], ◌∷◌, ◌++◌, length, replicate, Some, None, decimal, Option}
+use Rattle.std.specs.Prelude.{◌≡◌, ℕ, suc, ◌+◌, ◌*◌, ◌%◌, ◌<◌, ◌≤◌, List, [], ◌∷◌, ◌++◌, length, replicate, Some, None, decimal, Option, Ok, Err, Result}
+use Rattle.fixed_vec.specs.declared.Full.{Full}
 use Rattle.terms.specs.declared.symbol.Symbol.{Symbol}
 use Rattle.terms.specs.declared.symbol.Symbol.TheVariants.{Variable, Instrument, Operator}
 use Rattle.terms.specs.Term.{Term, Terms, nil, cons, symbols, symbols_in}
@@ -58,17 +59,15 @@ children c (p ∷ []) = record { place = p; lead = Some Opening; closings = c } 
 children c (p ∷ q ∷ ps) = record { place = p; lead = Some Opening; closings = 0 } ∷ others c (q ∷ ps)
 
 -- what stands in slots, the last first and each with its lead, is put before what was there, with so many closing parentheses after the last
-abbrev pub spread : ℕ → List (Option ℕ × Lead) → List Pending → List Pending
-spread c [] es = es
-spread c ((None, l) ∷ xs) es = spread c xs es
-spread c ((Some p, l) ∷ xs) es = spread 0 xs (record { place = p; lead = Some l; closings = c } ∷ es)
+abbrev pub heaped : ℕ → List (Option ℕ × Lead) → List Pending → List Pending
+heaped c [] es = es
+heaped c ((None, l) ∷ xs) es = heaped c xs es
+heaped c ((Some p, l) ∷ xs) es = heaped 0 xs (record { place = p; lead = Some l; closings = c } ∷ es)
 
--- the row, of at most three, stands in the slots, and there is room for it on the stack
-pub record Fitting (slots : List (Option ℕ)) (stack : List Pending) : Type 0 where
-  pub row : List ℕ
-  pub is : slots ≡ padded row
-  pub few : length row ≤ 3
-  pub room : length row + length stack ≤ most_symbols
+-- the row that stands in the slots is put onto the stack; or there is no room for it
+abbrev pub Spread : ℕ → List (Option ℕ) → List Pending → List Pending → Result (Unit {0}) Full → Type 0
+Spread c slots before after (Ok u) = (row : List ℕ) → slots ≡ padded row → length row ≤ 3 → after ≡ children c row ++ before
+Spread c slots before after (Err e) = (row : List ℕ) → slots ≡ padded row → length row ≤ 3 → most_symbols < length row + length before
 
 -- writing these bytes takes one symbol from the pending terms
 abbrev pub Taken : Sig → Answers → List ℕ → List Pending → List Pending → Type 0

@@ -1,19 +1,18 @@
-ghost use Rattle.std.specs.Prelude.{◌≡◌, ℕ, ◌≤◌, List, ◌∷◌, ◌++◌, length};
+ghost use Rattle.std.specs.Prelude.{◌∷◌};
 ghost use Rattle.terms.specs.Term.{Term};
 ghost use Rattle.terms.specs.Text.{text_of};
 ghost use Rattle.signature.specs.Declaring.{sig_of};
 ghost use Rattle.traversal.specs.Walks.{Written};
 ghost use Rattle.fixed_vec.specs.FixedVec.{content};
-ghost use Rattle.traversal.specs.Rows.{padded};
 ghost use Rattle.traversal.specs.Bytes.{Lays};
-ghost use Rattle.traversal.specs.Pendings.{children, Fitting, Layable, Stepped, OfSize, SomeOfSize};
+ghost use Rattle.traversal.specs.Pendings.{Spread, Layable, Stepped, OfSize, SomeOfSize};
 
 use crate::MOST;
 use crate::count::count_symbols;
 use crate::pending::{Lead, Pending};
 use crate::row::arguments;
 use crate::unwritten::Unwritten;
-use fixed_vec::FixedVec;
+use fixed_vec::{FixedVec, Full};
 use signature::Signature;
 use terms::view::TermView;
 use writer::Writer;
@@ -88,14 +87,19 @@ fn lay_symbol<V: TermView>(
     if row[0].is_none() {
         writer.put_closings(item.closings);
     } else {
-        push_arguments(row, item.closings + 1, stack);
+        let Ok(()) = push_arguments(row, item.closings + 1, stack) else {
+            unreachable()
+        };
     }
 }
 
 // Puts arguments onto the stack, the first on top, with so many closing parentheses after the last.
-fn push_arguments(row: [Option<u16>; 3], closings: u32, stack: &mut FixedVec<Pending, MOST>)
-    requires { Fitting row (content stack.old) }
-    ensures { (ps : List ℕ) → row ≡ padded ps → length ps ≤ 3 → content stack.new ≡ children closings ps ++ content stack.old }
+fn push_arguments(
+    row: [Option<u16>; 3],
+    closings: u32,
+    stack: &mut FixedVec<Pending, MOST>,
+) -> Result<(), Full>
+    ensures { Spread closings row (content stack.old) (content stack.new) result }
 {
     let [first, second, third] = row;
     let mut after = closings;
@@ -107,14 +111,12 @@ fn push_arguments(row: [Option<u16>; 3], closings: u32, stack: &mut FixedVec<Pen
         let Some(place) = slot else {
             continue;
         };
-        let item = Pending {
+        stack.push(Pending {
             place,
             lead: Some(lead),
             closings: after,
-        };
-        let Ok(()) = stack.push(item) else {
-            unreachable()
-        };
+        })?;
         after = 0;
     }
+    Ok(())
 }

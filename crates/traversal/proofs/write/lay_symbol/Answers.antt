@@ -10,25 +10,23 @@ use Rattle.traversal.proofs.Texts.{stepped_arguments, stepped_bare, first_free, 
 use Rattle.traversal.proofs.Layings.{room_for}
 use Rattle.traversal.proofs.write.lay_symbol.Goals as goal
 
-pub push_arguments-requires : goal.push_arguments-requires
-push_arguments-requires g c =
+pub unreachable-requires : goal.unreachable-requires
+unreachable-requires g c =
     let v = g.V.TermView.answers c.args.view.now in
-    record {
-      row = row_of v c.args.item.place;
-      is = c.arguments-row.ensures.row;
-      few = row_short v c.args.item.place 3 0;
-      room = room_for v c.args.item (content c.args.stack.now) c.requires.terms c.requires.stand c.requires.few;
-    }
+    let p = c.args.item.place in
+    let full = c.in_default.ensures (row_of v p) c.arguments-row.ensures.row (row_short v p 3 0) in
+    let room = room_for v c.args.item (content c.args.stack.now) c.requires.terms c.requires.stand c.requires.few in
+    omega (arith, full, room)
 
-pub returns-else-is_none : goal.returns-else-is_none
-returns-else-is_none g c =
+pub returns-in-Ok : goal.returns-in-Ok
+returns-in-Ok g c =
     let row = row_of (g.V.TermView.answers c.args.view.now) c.args.item.place in
     let told = puts_as (ap (symbol_text (sig_of c.args.signature.now)) c.symbol.ensures) c.put_symbol.ensures.text in
     stepped_arguments _ _ c.args.item _ _ _ _
     (puts_both c.put_lead.ensures told)
     (omega (arith, c.put_lead.ensures.lays.end, c.put_symbol.ensures.short))
     (first_taken row c.arguments-row.result c.is_none.result c.arguments-row.ensures.row c.is_none.ensures c.if-is_none.false)
-    (c.push_arguments.ensures row c.arguments-row.ensures.row (row_short (g.V.TermView.answers c.args.view.now) c.args.item.place 3 0))
+    (c.in-Ok.ensures row c.arguments-row.ensures.row (row_short (g.V.TermView.answers c.args.view.now) c.args.item.place 3 0))
     c.arguments-row.ensures.few
 
 pub returns-then-is_none : goal.returns-then-is_none

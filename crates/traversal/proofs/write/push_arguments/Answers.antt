@@ -1,12 +1,8 @@
-use Rattle.std.proofs.Common.{length, ap, arith}
-use Rattle.traversal.specs.Walks.{most_symbols}
+use Rattle.std.proofs.Common.{arith}
 use Rattle.fixed_vec.specs.FixedVec.{content}
-use Rattle.traversal.proofs.Texts.{led, spread_more, spread_length}
+use Rattle.traversal.proofs.Texts.{not_spread}
 use Rattle.traversal.proofs.write.push_arguments.Goals as goal
 
-pub unreachable-requires : goal.unreachable-requires
-unfolding most_symbols
-unreachable-requires c =
-    let more = spread_more c.loop-slot.after (led c.args.row) c.loop-slot.slot-index c.in-Some.place _ (content c.loop-slot.stack) (omega arith) c.in-Some.is in
-    let all = spread_length c.args.closings c.requires.row c.args.row (content c.args.stack.now) c.requires.is c.requires.few in
-    omega (arith, more, all, ap length c.loop-slot.invariant, c.in_default-push.ensures.top.1, c.requires.room)
+pub returns-in_err-push : goal.returns-in_err-push
+returns-in_err-push c =
+    not_spread c.from_residual.result c.args.closings c.loop-slot.after c.loop-slot.slot-index c.in-Some.place c.args.row _ (content c.args.stack.now) (content c.loop-slot.stack) _ c.from_residual.ensures.0 (omega arith) c.in-Some.is c.loop-slot.invariant c.in_err-push.ensures.top.1

@@ -1,7 +1,7 @@
 use Rattle.std.proofs.Common.{◌≡◌, drop}
 use Rattle.fixed_vec.specs.FixedVec.{content}
-use Rattle.traversal.specs.Pendings.{spread}
+use Rattle.traversal.specs.Pendings.{heaped}
 use Rattle.traversal.proofs.write.push_arguments.Given as goal
 
 abbrev pub invariant-loop-slot : goal.invariant-loop-slot
-invariant-loop-slot l = spread l.after (drop l.slot-index l.slot-items) (content l.stack) ≡ spread l.closings l.slot-items (content l.fn.stack)
+invariant-loop-slot l = heaped l.after (drop l.slot-index l.slot-items) (content l.stack) ≡ heaped l.closings l.slot-items (content l.fn.stack)
