@@ -10,7 +10,6 @@ use Rattle.terms.specs.Signature.{Sig}
 use Rattle.terms.specs.Text.{text_of, arguments_text, others_text}
 use Rattle.terms.specs.View.{Answers, Stands, StandFrom}
 use Rattle.traversal.specs.declared.pending.Lead.{Lead}
-use Rattle.traversal.specs.declared.pending.Lead.TheVariants.{Opening, Comma}
 use Rattle.traversal.specs.declared.pending.Pending.{Pending}
 use Rattle.traversal.specs.Rows.{ahead, row_from, row_of, padded, StandAll}
 use Rattle.traversal.specs.declared.write.writer.Writer.{Writer}
@@ -168,21 +167,21 @@ heaped_more c ((Some q, k) ∷ xs) zero p d es h e = let ih = heaped_long 0 xs (
 heaped_more c (x ∷ xs) (suc i) p d es h e = heaped_more c xs i p d es (omega arith) e
 
 -- the slots of a row as they are gone through
-abbrev pub led : List (Option ℕ) → List (Option ℕ × Lead)
-led slots = (get_or slots 2 None, Comma) ∷ (get_or slots 1 None, Comma) ∷ (get_or slots 0 None, Opening) ∷ []
+abbrev pub led : Lead → Lead → Lead → List (Option ℕ) → List (Option ℕ × Lead)
+led j k l slots = (get_or slots 2 None, j) ∷ (get_or slots 1 None, k) ∷ (get_or slots 0 None, l) ∷ []
 
-pub heaped_length : (c : ℕ) (row : List ℕ) (slots : List (Option ℕ)) (es : List Pending) → slots ≡ padded row → length row ≤ 3 → length (heaped c (led slots) es) ≡ length row + length es
-heaped_length c [] slots es e few = rw e (omega arith)
-heaped_length c (p ∷ []) slots es e few = rw e (omega arith)
-heaped_length c (p ∷ q ∷ []) slots es e few = rw e (omega arith)
-heaped_length c (p ∷ q ∷ r ∷ []) slots es e few = rw e (omega arith)
-heaped_length c (p ∷ q ∷ r ∷ s ∷ row) slots es e few = absurd (let z : ⊥ = omega arith in z)
+pub heaped_length : (c : ℕ) (j k l : Lead) (row : List ℕ) (slots : List (Option ℕ)) (es : List Pending) → slots ≡ padded row → length row ≤ 3 → length (heaped c (led j k l slots) es) ≡ length row + length es
+heaped_length c j k l [] slots es e few = rw e (omega arith)
+heaped_length c j k l (p ∷ []) slots es e few = rw e (omega arith)
+heaped_length c j k l (p ∷ q ∷ []) slots es e few = rw e (omega arith)
+heaped_length c j k l (p ∷ q ∷ r ∷ []) slots es e few = rw e (omega arith)
+heaped_length c j k l (p ∷ q ∷ r ∷ s ∷ row) slots es e few = absurd (let z : ⊥ = omega arith in z)
 
-pub not_spread : (r : Result (Unit {0}) Full) (c k i p : ℕ) (slots : List (Option ℕ)) (d : Option ℕ × Lead) (before mid after : List Pending) → IsErr r → i < 3 → (get_or (led slots) i d).0 ≡ Some p → heaped k (drop i (led slots)) mid ≡ heaped c (led slots) before → 16384 ≤ length mid → Spread c slots before after r
+pub not_spread : (r : Result (Unit {0}) Full) (c m i p : ℕ) (j k l : Lead) (slots : List (Option ℕ)) (d : Option ℕ × Lead) (before mid after : List Pending) → IsErr r → i < 3 → (get_or (led j k l slots) i d).0 ≡ Some p → heaped m (drop i (led j k l slots)) mid ≡ heaped c (led j k l slots) before → 16384 ≤ length mid → Spread c slots before after r
 unfolding most_symbols
-not_spread (Ok u) c k i p slots d before mid after is h at e full = absurd (true≢false (sym is))
-not_spread (Err u) c k i p slots d before mid after is h at e full = λ row held few.
-    let more = heaped_more k (led slots) i p d mid h at in
-    let all = heaped_length c row slots before held few in
+not_spread (Ok u) c m i p j k l slots d before mid after is h at e full = absurd (true≢false (sym is))
+not_spread (Err u) c m i p j k l slots d before mid after is h at e full = λ row held few.
+    let more = heaped_more m (led j k l slots) i p d mid h at in
+    let all = heaped_length c j k l row slots before held few in
     let same = ap length e in
     omega arith

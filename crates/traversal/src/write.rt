@@ -108,15 +108,14 @@ fn push_arguments(
         (second, Lead::Comma),
         (first, Lead::Opening),
     ] {
-        let Some(place) = slot else {
-            continue;
-        };
-        stack.push(Pending {
-            place,
-            lead: Some(lead),
-            closings: after,
-        })?;
-        after = 0;
+        if let Some(place) = slot {
+            stack.push(Pending {
+                place,
+                lead: Some(lead),
+                closings: after,
+            })?;
+            after = 0;
+        }
     }
     Ok(())
 }
