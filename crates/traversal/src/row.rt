@@ -3,7 +3,7 @@ ghost use Rattle.traversal.specs.Rows.{row_of, padded};
 
 use terms::view::TermView;
 
-// The places of the arguments of a place, in order, and nothing behind the last.
+// The places of the arguments of a place, in order, and nothing behind the last. In an array: a `FixedVec` of them is slower to go through.
 pub fn arguments<V: TermView>(view: &V, place: u16) -> [Option<u16>; 3]
     ensures row { result ≡ padded (row_of (V.answers view.now) place) }
     ensures few { (V.answers view.now).argument place 3 ≡ None }

@@ -61,6 +61,7 @@ fn lay_text<V: TermView>(
         unreachable()
     };
     let mut writer = Writer::new(buffer);
+    // Counted, and no `while let`: the count is what shows that the loop ends.
     for _k in 0..n {
         let Some(item) = stack.pop() else {
             unreachable()
