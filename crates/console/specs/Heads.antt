@@ -6,8 +6,9 @@ use Rattle.signature.specs.Declaring.{sig_of}
 use Rattle.reading.specs.declared.fault.SheetFault.{SheetFault}
 use Rattle.reading.specs.declared.refusal.Refusal.{Refusal}
 use Rattle.reading.specs.Refusals.{sheet_refusal}
+use Rattle.reading.specs.HeadingLaw.{OfHeading}
 
--- the signature that the definition gives, or the refusal of its fault
+-- the signature that the definition gives, or the refusal of its fault, which is one that a heading can have
 abbrev pub Opens : Result Signature Refusal → Result Sig SheetFault → Type 0
 Opens (Ok s) o = o ≡ Ok (sig_of s)
-Opens (Err r) o = (f : SheetFault) × (o ≡ Err f) × (r ≡ sheet_refusal f)
+Opens (Err r) o = (f : SheetFault) × (o ≡ Err f) × (r ≡ sheet_refusal f) × OfHeading f
