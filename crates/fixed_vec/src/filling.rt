@@ -22,11 +22,12 @@ impl<T: Copy, const N: usize> FixedVec<T, N> {
         ensures full { OnErr result (N ≤ length (items self.old)) }
         ensures kept { OnErr result (self.new ≡ self.old) }
     {
-        if self.is_full() {
+        let end = self.len;
+        if end >= N {
             return Err(Full);
         }
-        self.slots[self.len] = item;
-        self.len += 1;
+        self.slots[end] = item;
+        self.len = end + 1;
         Ok(())
     }
 
