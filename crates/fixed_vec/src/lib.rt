@@ -8,6 +8,7 @@ use std::alloc::AllocError;
 mod filling;
 
 // Up to N items in an array, in use from its front; as a stack, the last is the top.
+// An array with a length, since nothing may be allocated, and what holds it must be `Copy`.
 pub struct FixedVec<T, const N: usize> {
     slots: [T; N],
     len: usize,

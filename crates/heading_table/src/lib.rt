@@ -40,6 +40,7 @@ mod tests {
         }
     }
 
+    // As in the table of tickets: a crate for what the two share would be longer than both.
     #[test]
     fn every_case_is_answered(rt: HostRuntime) -> Result<(), Fail> {
         for case in CASES.split('\n') {

@@ -1,5 +1,5 @@
 // Why a text is not written.
-#[derive(Clone, Copy, PartialEq, Eq)]
+#[derive(Clone, Copy, PartialEq, Eq, Debug)]
 pub enum Unwritten {
     // no term of at most 16,384 symbols stands at the place
     NoTerm,

@@ -41,6 +41,7 @@ pub fn write_text<V: TermView>(
 }
 
 // Writes the text of a term of n symbols as far as the buffer reaches, and answers its whole length.
+// The signature and the view stay two parameters, here and below: a struct of them would be made in one place and read in two.
 fn lay_text<V: TermView>(
     signature: &Signature,
     view: &V,

@@ -19,7 +19,7 @@ use signature::operator::Undeclarable;
 // The largest argument count.
 const LARGEST_COUNT: u32 = 3;
 
-// The fault of a name that is not declared. No token is a name that is misspelt.
+// The fault of a name that is not declared, which needs the place too, and so is no `From`. No token is a name that is misspelt.
 fn name_fault(why: Undeclarable, at: At) -> SheetFault
     ensures { result ≡ why_not why at }
 {

@@ -64,7 +64,8 @@ impl Parser {
         Ok(())
     }
 
-    // An operator of one argument and so many more, where a term may begin.
+    // An operator of one argument and so many more, where a term may begin. Unlike a leaf it has a first argument, and its parenthesis
+    // comes next; as one function the two would share the push alone.
     fn take_operator(&mut self, operator: u8, left: u8, at: At) -> Result<(), TextFault>
         ensures { (k : Context) → Takes self.old (wants k) at result (Ok (opens operator at left k)) self.new }
     {
