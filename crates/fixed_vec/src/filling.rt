@@ -1,4 +1,4 @@
-ghost use Rattle.std.specs.Prelude.{◌≡◌, [], ◌∷◌, ◌++◌, ◌≤◌, length, OnOk, OnErr, slice_set, nat_le};
+ghost use Rattle.std.specs.Prelude.{◌≡◌, [], ◌∷◌, ◌++◌, ◌+◌, ◌<◌, ◌≤◌, length, OnOk, OnErr, slice_set, nat_le};
 ghost use Rattle.fixed_vec.specs.FixedVec.{items, content, Added, Removed, Popped};
 
 use crate::{FixedVec, Full};
@@ -28,6 +28,22 @@ impl<T: Copy, const N: usize> FixedVec<T, N> {
         }
         self.slots[end] = item;
         self.len = end + 1;
+        Ok(())
+    }
+
+    // Puts items behind the others, where there is room for all of them.
+    pub fn extend_from_slice(&mut self, more: &[T]) -> Result<(), Full>
+        ensures last { OnOk result (items self.new ≡ items self.old ++ more.now) }
+        ensures full { OnErr result (N < length (items self.old) + length more.now) }
+        ensures kept { OnErr result (self.new ≡ self.old) }
+    {
+        if more.len() > N - self.len {
+            return Err(Full);
+        }
+        let end = self.len + more.len();
+        let slots = &mut self.slots[..];
+        slots[self.len..end].copy_from_slice(more);
+        self.len = end;
         Ok(())
     }
 

@@ -9,6 +9,7 @@ mod filling;
 
 // Up to N items in an array, in use from its front; as a stack, the last is the top.
 // An array with a length, since nothing may be allocated, and what holds it must be `Copy`.
+#[derive(Copy)]
 pub struct FixedVec<T, const N: usize> {
     slots: [T; N],
     len: usize,
@@ -19,8 +20,6 @@ pub struct FixedVec<T, const N: usize> {
 // There is no room for one more item.
 #[derive(Clone, Copy, PartialEq, Eq, Debug)]
 pub struct Full;
-
-impl<T: Copy, const N: usize> Copy for FixedVec<T, N> {}
 
 // By hand: over a type, a struct with ghost fields gets no derived Clone.
 impl<T: Copy, const N: usize> Clone for FixedVec<T, N> {

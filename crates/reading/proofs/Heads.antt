@@ -3,7 +3,7 @@ use Rattle.std.proofs.Common.{◌≡◌, ℕ, suc, ◌<◌, ◌≤◌, true, ltb
 use Rattle.std.proofs.lemmas.List.{length-map, length_push, length-set, length-take-le, map_push, map-set, get_or-map, set-get_or, take_all}
 use Rattle.std.proofs.lemmas.Bool.{cond_both, leb-true, leb-false, ltb-true, ltb-false}
 use Rattle.terms.specs.Signature.{Op, Sig, op_of, spelt, Declared, found}
-use Rattle.terms.proofs.Signatures.{spelt_push, apart_push, ranked_push, spelt_again, apart_again, ranked_again}
+use Rattle.terms.proofs.Signatures.{declared_push, declared_again}
 use Rattle.reading.specs.declared.token.At.{At}
 use Rattle.reading.specs.declared.token.Mark.{Mark}
 use Rattle.reading.specs.declared.token.Mark.TheVariants.{Opening, Closing, Comma, Equals, Dash, Blank, LineEnd}
@@ -60,7 +60,7 @@ module _ (most : ℕ) where
     once s (Some f) e l h = named_twice sig s f refl refl e refl
     once s None e l h =
         let d = good.declared in
-        let more : Declared (sig ++ (new s ∷ [])) = record { are_spelt = spelt_push sig s 0 d.are_spelt l; are_apart = apart_push sig s 0 d.are_apart e; are_ranked = ranked_push sig s 0 d.are_ranked (omega arith) } in
+        let more : Declared (sig ++ (new s ∷ [])) = declared_push sig s 0 d l e (omega arith) in
         let many = length_push sig (new s) in
         ((record { declared = more; few = omega arith }, omega arith), ap spaced (map_push name_tok sig (new s)) ∙ spaced_push (map name_tok sig) (a_name s))
 
@@ -114,7 +114,7 @@ module _ (most : ℕ) where
           let (q, m) = (numbers 3 s n (omega arith) l).0 e in
           let d = good.declared in
           let long = length-set sig f (with_count n) in
-          let again : Declared (set sig f (with_count n)) = record { are_spelt = spelt_again sig f n h d.are_spelt; are_apart = apart_again sig f n h d.are_apart; are_ranked = ranked_again sig f n h m d.are_ranked } in
+          let again : Declared (set sig f (with_count n)) = declared_again sig f n h m d in
           ((record { declared = again; few = omega (arith, good.few) }, omega arith), count_tokens n ∙ ap (λ x. head_tokens (sig, WantsCount f) ++ (a_number x ∷ [])) (sym q))
 
       said_wants_count : (k : Tok) → Lexed k → HeadSaid (sig, WantsCount f) k at (wants_count k sig f at)

@@ -4,7 +4,7 @@ use Rattle.std.proofs.lemmas.List.{length-map, length_push, length-drop, length-
 use Rattle.terms.specs.Rule.{Rule}
 use Rattle.terms.specs.Signature.{Op, Sig, Declared}
 use Rattle.terms.specs.Text.{text_of}
-use Rattle.terms.proofs.Signatures.{spelt_push, apart_push, ranked_push}
+use Rattle.terms.proofs.Signatures.{declared_push}
 use Rattle.reading.specs.declared.token.Mark.TheVariants.{Equals, Blank, LineEnd}
 use Rattle.reading.specs.declared.heading.Stage.TheVariants.{WantsName, HasName, WantsCount, HasCount, Done}
 use Rattle.reading.specs.Tokens.{Tok, a_mark, tokens}
@@ -71,7 +71,7 @@ fronts_heading (sig, WantsName) g =
     let long = length_push sig new in
     let all : Sig = sig ++ (new ∷ []) in (
       all,
-      record { are_spelt = spelt_push sig s 0 d.are_spelt e; are_apart = apart_push sig s 0 d.are_apart u; are_ranked = ranked_push sig s 0 d.are_ranked (omega arith) },
+      declared_push sig s 0 d e u (omega arith),
       omega arith,
       fronts_on (blanked (map name_tok sig)) (line (map name_tok all)) (heading_tokens all) (fronts_blanked name_tok sig (new ∷ []) (omega arith)) (line (map count_tok all), refl),
     )

@@ -82,12 +82,12 @@ impl Signature {
         if self.find(name).is_some() {
             return Err(Undeclarable::Twice);
         }
-        self.operators
-            .push(Operator::new(name, 0))
-            .map_err(|_| Undeclarable::Full)
+        self.operators.push(Operator::new(name, 0)).unwrap();
+        Ok(())
     }
 
     // Gives a declared operator its arity, of three at most.
+    #[tactic(auto, using(crate::proofs::Operators::set_again))]
     pub fn rank(&mut self, operator: u8, arity: u8) -> Result<(), Unrankable>
         ensures { Ranks (sig_of self.old) operator arity (sig_of self.new) result }
     {

@@ -37,7 +37,7 @@ impl<'v, V: TermView> TermView for Renamed<'v, V> {
     ghost answers = { λ s. renamed_answers (V.TermView.answers s.inner.now) };
 
     fn symbol(&self, place: u16) -> Option<Symbol> {
-        self.inner.symbol(place).map(|symbol| symbol.renamed())
+        self.inner.symbol(place).map(Symbol::renamed)
     }
 
     fn argument(&self, place: u16, n: usize) -> Option<u16> {

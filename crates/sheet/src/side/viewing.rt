@@ -24,10 +24,12 @@ impl Side {
     #[tactic(auto, using(crate::proofs::Sides::laid_instrument))]
     pub(crate) fn blank() -> Side {
         let mut nodes = Layout::new();
-        let _ = nodes.push(Node {
-            symbol: Some(Symbol::Instrument(1)),
-            ..Node::VACANT
-        });
+        nodes
+            .push(Node {
+                symbol: Some(Symbol::Instrument(1)),
+                ..Node::VACANT
+            })
+            .unwrap();
         Side::new(&nodes)
     }
 

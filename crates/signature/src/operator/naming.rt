@@ -11,10 +11,7 @@ impl Name {
         ensures { bytes_of result ≡ part.now }
     {
         let mut bytes = FixedVec::new(0);
-        for b in part {
-            // there is room: a name has 12 bytes at most
-            let _ = bytes.push(*b);
-        }
+        bytes.extend_from_slice(part).unwrap();
         Name { bytes }
     }
 

@@ -12,9 +12,3 @@ invariant_of-self c =
     let (within, is, few) = c.in-Some.ensures in
     let e = set_again (items s.operators) (items c.set.new.self) c.args.operator c.args.arity c.in-Some.declared.now c.ranked-ranked.result c.set.ensures is c.ranked-ranked.ensures in
     record { declared = subst Declared (sym e) (declared_again (sig_of s) c.args.operator c.args.arity within (omega arith) s.declared) }
-
-pub returns : goal.returns
-returns c =
-    let s = c.args.self.now in
-    let (within, is, few) = c.in-Some.ensures in
-    (set_again (items s.operators) (items c.set.new.self) c.args.operator c.args.arity c.in-Some.declared.now c.ranked-ranked.result c.set.ensures is c.ranked-ranked.ensures, within, omega arith)
