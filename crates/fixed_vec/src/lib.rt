@@ -21,7 +21,7 @@ pub struct FixedVec<T, const N: usize> {
 #[derive(Clone, Copy, PartialEq, Eq, Debug)]
 pub struct Full;
 
-// By hand: over a type, a struct with ghost fields gets no derived Clone.
+// By hand: no Clone is derived for a struct with ghost fields and a type parameter.
 impl<T: Copy, const N: usize> Clone for FixedVec<T, N> {
     ghost is_clone = { λ v w. w ≡ v };
 

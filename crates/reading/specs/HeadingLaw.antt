@@ -13,7 +13,7 @@ OfHeading (Headless at) = ⊥
 OfHeading (Doubled at) = ⊥
 OfHeading (Unbound at) = ⊥
 
--- a text is read as a signature exactly if it is the heading of that signature, which has 1 to 32 declared operators
+-- a text is read as a signature exactly if it is the heading of that signature, which has 1 to 32 declared operators; else its text is wrong, or a name stands twice
 pub record HeadingLaw (b : List ℕ) : Type 0 where
   pub accepted : (sig : Sig) → read_heading b ≡ Ok sig → Declared sig × (1 ≤ length sig) × (length sig ≤ 32) × (heading_text sig ≡ b)
   pub read_back : (sig : Sig) → Declared sig → 1 ≤ length sig → length sig ≤ 32 → heading_text sig ≡ b → read_heading b ≡ Ok sig

@@ -4,7 +4,7 @@ ghost use Rattle.reading.specs.declared.fault.SheetFault.TheVariants.{Text};
 use crate::token::At;
 
 // What is wrong with a text, and where.
-#[derive(Clone, Copy, PartialEq, Eq)]
+#[derive(Clone, Copy, PartialEq, Eq, Debug)]
 pub enum TextFault {
     // a byte that begins no token
     Stray(At),
@@ -21,7 +21,7 @@ pub enum TextFault {
 }
 
 // What is wrong with a sheet: with its text, or with what the text says.
-#[derive(Clone, Copy, PartialEq, Eq)]
+#[derive(Clone, Copy, PartialEq, Eq, Debug)]
 pub enum SheetFault {
     Text(TextFault),
     // a name that stands twice in the line of names

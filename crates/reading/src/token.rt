@@ -1,5 +1,5 @@
 // A byte that is a token by itself: ( ) , = - blank and line end.
-#[derive(Clone, Copy, PartialEq, Eq)]
+#[derive(Clone, Copy, PartialEq, Eq, Debug)]
 pub enum Mark {
     Opening,
     Closing,
@@ -11,7 +11,7 @@ pub enum Mark {
 }
 
 // The byte place and the line of a token, both from 0.
-#[derive(Clone, Copy, PartialEq, Eq)]
+#[derive(Clone, Copy, PartialEq, Eq, Debug)]
 pub struct At {
     pub place: usize,
     pub line: usize,

@@ -21,7 +21,7 @@ pub mod viewing;
 pub struct Sheet {
     signature: Signature,
     rules: FixedVec<Rule, 32>,
-    // The mark stays a flag: it is private, and only a function that requires the fact sets it.
+    // True only after `mark_admitted`, which requires the fact.
     admitted: bool,
     ghost lawful: { Lawful (sig_of signature) (rules_from (items rules)) },
     ghost judged: { (admitted ≡ true → ∥ Admissible (sig_of signature) (rules_from (items rules)) ∥₁) },

@@ -1,4 +1,4 @@
-// What reading a sheet is: its text, what can be wrong with it, and the laws of reading it.
+// What reading a sheet is: its text, how it is read, and the laws of reading it.
 #![tactic(auto)]
 
 pub mod laws;

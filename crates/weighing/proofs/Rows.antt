@@ -43,12 +43,13 @@ values_rebased rows i f row new b at h is e same = values_put rows i f row new 0
   put (suc n) = grind (arith, common_steps)
 
 -- and of which one is given another factor
-pub values_refactored : (rows : List Row) (i f : ℕ) (row : Row) (n : ℕ) (factor : _) (v : Value) → i ≡ f → i < length rows → row ≡ get_or rows i row → n < length row.factors → written factor ≡ v → (l g : ℕ) → get_or (values_in (set rows i (record { base = row.base; factors = set row.factors n factor })) l) g (neutral_in l) ≡ cond (eqb l (suc n) && eqb g f) v (get_or (values_in rows l) g (neutral_in l))
-values_refactored rows i f row n factor v at h is within e = values_put rows i f row _ (suc n) v at h is put where
-  put : (l : ℕ) → entry_of (record { base = row.base; factors = set row.factors n factor }) l ≡ cond (eqb l (suc n)) v (entry_of row l)
+pub values_refactored : (rows : List Row) (i f : ℕ) (row new : Row) (n : ℕ) (factor : _) (v : Value) → i ≡ f → i < length rows → row ≡ get_or rows i row → n < length row.factors → written factor ≡ v → new.base ≡ row.base → new.factors ≡ set row.factors n factor → (l g : ℕ) → get_or (values_in (set rows i new) l) g (neutral_in l) ≡ cond (eqb l (suc n) && eqb g f) v (get_or (values_in rows l) g (neutral_in l))
+values_refactored rows i f row new n factor v at h is within e base factors = values_put rows i f row new (suc n) v at h is put where
+  put : (l : ℕ) → entry_of new l ≡ cond (eqb l (suc n)) v (entry_of row l)
   put zero = grind (arith, common_steps)
   put (suc m) =
-      ap (λ vs. get_or vs m (Some 1)) (map-set written row.factors n factor ∙ ap (set (map written row.factors) n) e)
+      ap (λ fs. get_or (map written fs) m (Some 1)) factors
+      ∙ ap (λ vs. get_or vs m (Some 1)) (map-set written row.factors n factor ∙ ap (set (map written row.factors) n) e)
       ∙ put_one (map written row.factors) n m v (Some 1) (omega (arith, length-map row.factors written)) ∙ grind (arith, common_steps)
 
 -- what is written of a factor is one

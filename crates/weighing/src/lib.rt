@@ -1,6 +1,8 @@
 // A weighing: a base and three factors for each operator, none outside its range.
 #![tactic(auto)]
 
+ghost use Rattle.std.specs.Prelude.{◌≡◌, length};
+
 use bounded::{Base, Factor};
 
 mod bounded;
@@ -12,21 +14,23 @@ pub mod setting;
 pub struct Row {
     base: Base,
     factors: [Option<Factor>; 3],
+    ghost three: { length factors ≡ 3 },
 }
 
 // A row for each of 32 operators.
 #[derive(Clone, Copy)]
 pub struct Weighing {
     rows: [Row; 32],
+    ghost whole: { length rows ≡ 32 },
 }
 
 // Why a weighing does not take a base or a factor.
 #[derive(Clone, Copy, PartialEq, Eq, Debug)]
 pub enum Unweighable {
-    // The operator is past the last, the 32nd.
+    // the operator is past the last, the 32nd
     PastOperators,
-    // The argument is past the third.
+    // the argument is past the third
     PastArguments,
-    // The base or the factor is too small or too large.
+    // the base or the factor is too small or too large
     OutOfRange,
 }

@@ -28,10 +28,10 @@ impl Weighing {
         ensures { PutsBase self.old operator base self.new result }
     {
         let at = usize::from(operator);
-        let row = *self.rows.get(at).ok_or(Unweighable::PastOperators)?;
-        let base = Base::try_from(base)?;
+        let mut row = *self.rows.get(at).ok_or(Unweighable::PastOperators)?;
+        row.base = Base::try_from(base)?;
         // By index: after `get_mut` nothing is known of the other rows.
-        self.rows[at] = Row { base, ..row };
+        self.rows[at] = row;
         Ok(())
     }
 
