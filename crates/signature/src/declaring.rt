@@ -14,7 +14,7 @@ impl Signature {
         ensures { sig_of result ≡ [] }
     {
         Signature {
-            operators: FixedVec::new(Operator::new(&[], 0)),
+            operators: FixedVec::new(Operator::named(&[])),
         }
     }
 
@@ -39,7 +39,7 @@ impl Signature {
         ensures short { length result.now ≤ 12 }
     {
         self.operator(operator)
-            .map_or(&[], |declared| declared.name())
+            .map_or(&[], |declared| declared.name.bytes.as_slice())
     }
 
     // How many arguments an operator takes, 0 where it is not declared.
@@ -47,8 +47,7 @@ impl Signature {
         ensures value { result ≡ (op_of (sig_of self.now) operator).arity }
         ensures few { result ≤ 3 }
     {
-        self.operator(operator)
-            .map_or(0, |declared| declared.arity())
+        self.operator(operator).map_or(0, |declared| declared.arity)
     }
 
     // The operator of a name.
@@ -66,7 +65,7 @@ impl Signature {
     {
         self.operators
             .iter()
-            .position(|operator| operator.name() == name)
+            .position(|operator| operator.name.bytes.as_slice() == name)
     }
 
     // Declares one operator more, without arguments as yet.
@@ -82,7 +81,7 @@ impl Signature {
         if self.find(name).is_some() {
             return Err(Undeclarable::Twice);
         }
-        self.operators.push(Operator::new(name, 0)).unwrap();
+        self.operators.push(Operator::named(name)).unwrap();
         Ok(())
     }
 
@@ -97,7 +96,7 @@ impl Signature {
         if arity > 3 {
             return Err(Unrankable::PastThree);
         }
-        let ranked = declared.ranked(arity);
+        let ranked = Operator { arity, ..*declared };
         self.operators.set(operator as usize, ranked);
         Ok(())
     }

@@ -5,14 +5,14 @@ pub mod naming;
 // A name of at most 12 bytes.
 #[derive(Clone, Copy)]
 pub struct Name {
-    bytes: FixedVec<u8, 12>,
+    pub(crate) bytes: FixedVec<u8, 12>,
 }
 
 // A declared operator: its name, and how many arguments it takes.
 #[derive(Clone, Copy)]
 pub struct Operator {
-    name: Name,
-    arity: u8,
+    pub(crate) name: Name,
+    pub(crate) arity: u8,
 }
 
 // Why an operator gets no other arity.

@@ -44,7 +44,7 @@ impl<const N: usize> Layout<N> {
             next: Some(next),
             ..node
         };
-        self.nodes.set(place as usize, linked);
+        self.nodes.set(usize::from(place), linked);
     }
 
     // The node at a place, vacant where none is in use.
@@ -52,7 +52,7 @@ impl<const N: usize> Layout<N> {
         ensures { result ≡ slice_index_or (in_use self.now) place vacant }
     {
         self.nodes
-            .get(place as usize)
+            .get(usize::from(place))
             .copied()
             .unwrap_or(Node::VACANT)
     }

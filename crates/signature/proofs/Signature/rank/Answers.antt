@@ -1,4 +1,4 @@
-use Rattle.std.proofs.Common.{sym, subst, arith}
+use Rattle.std.proofs.Common.{sym, refl, subst, arith}
 use Rattle.fixed_vec.specs.FixedVec.{items}
 use Rattle.terms.specs.Signature.{Declared}
 use Rattle.terms.proofs.Signatures.{declared_again}
@@ -10,5 +10,5 @@ pub invariant_of-self : goal.invariant_of-self
 invariant_of-self c =
     let s = c.args.self.now in
     let (within, is, few) = c.in-Some.ensures in
-    let e = set_again (items s.operators) (items c.set.new.self) c.args.operator c.args.arity c.in-Some.declared.now c.ranked-ranked.result c.set.ensures is c.ranked-ranked.ensures in
+    let e = set_again (items s.operators) (items c.set.new.self) c.args.operator c.args.arity c.in-Some.declared.now _ c.set.ensures is refl in
     record { declared = subst Declared (sym e) (declared_again (sig_of s) c.args.operator c.args.arity within (omega arith) s.declared) }
