@@ -34,7 +34,7 @@ fn read_head<R: BufRead>(
     Ok(open(head.as_slice()))
 }
 
-// Answers each line of the input. Before more of the input is waited for, what is answered is written out.
+// Answers each line of the input. Where no further line has begun, what is answered is written out before reading on.
 fn answer_lines<R: Read, W: Write>(
     signature: &Signature,
     input: &mut BufReader<R>,

@@ -1,7 +1,7 @@
 -- A line that is read from a reader, chunk by chunk.
-use Rattle.std.proofs.Common.{◌≡◌, ℕ, ◌<◌, ◌≤◌, true, List, [], ◌∷◌, ◌++◌, length, take, Some, None, Option, IfSome, OnSome, sym, ap, ◌∙◌, subst, arith, append_assoc, length-append}
-use Rattle.std.specs.Io.KnownBytes.{Consumes, Keeps, IsAtEnd}
-use Rattle.std.proofs.KnownBytes.{Consumes-trans, Consumes-kept}
+use Rattle.std.proofs.Common.{◌≡◌, ℕ, ◌<◌, ◌≤◌, true, List, [], ◌∷◌, ◌++◌, length, take, Some, None, Option, sym, ap, ◌∙◌, subst, arith, append_assoc, length-append}
+use Rattle.std.specs.Io.KnownBytes.{Consumes}
+use Rattle.std.proofs.KnownBytes.{Consumes-trans}
 use Rattle.std.proofs.lemmas.List.{take_at}
 use Rattle.console.specs.declared.line.Ending.{Ending}
 use Rattle.console.specs.declared.line.Ending.TheVariants.{LineEnd, InputEnd}
@@ -28,12 +28,6 @@ collected_more xs ys s t c e h = record {
   clean = clean_join xs ys c.clean h;
 }
 
-at_end : (before a b : Option (List ℕ)) (bs chunk : List ℕ) → Consumes before a bs → length chunk ≡ 0 → IfSome a (λ xs. length chunk ≡ 0 → xs ≡ []) → Keeps a b → OnSome before (IsAtEnd b)
-at_end None a b bs chunk p none end kept = tt
-at_end (Some x) None b bs chunk p none end kept = absurd p
-at_end (Some x) (Some y) None bs chunk p none end kept = absurd kept
-at_end (Some x) (Some y) (Some z) bs chunk p none end kept = kept ∙ end none
-
 -- a line end that is found stands in the chunk
 pub found_within : (chunk : List ℕ) (s t : Seen) (n : ℕ) → Taken s chunk t (Some n) → n ≤ length chunk
 found_within chunk s t n w =
@@ -59,19 +53,3 @@ module _ (before a b : Option (List ℕ)) (s t : Seen) (ending : Option Ending) 
         collected_more g.bytes front s t g.collected read clean,
         subst (Consumes before b) (ap (λ l. g.bytes ++ l) shown ∙ sym (append_assoc g.bytes front (10 ∷ []))) (Consumes-trans before a b g.bytes (take n chunk) g.consumed q),
       )
-
--- where no byte more is there the line ends
-pub no_chunk : (before a b : Option (List ℕ)) (s : Seen) (ending : Option Ending) → Collecting before a s ending → (chunk : List ℕ) → length chunk ≡ 0 → IfSome a (λ xs. length chunk ≡ 0 → xs ≡ []) → Keeps a b → Ends before b s ending
-no_chunk before a b s None g chunk none end kept = (
-  g.collected.read ∙ ap (more (whole_line [])) g.ends,
-  subst (Consumes before b) g.ends (Consumes-kept before a b g.bytes g.consumed kept),
-  at_end before a b g.bytes chunk g.consumed none end kept,
-)
-no_chunk before a b s (Some LineEnd) g chunk none end kept = absurd g.ends
-no_chunk before a b s (Some InputEnd) g chunk none end kept = (
-  g.bytes,
-  g.ends,
-  g.collected,
-  Consumes-kept before a b g.bytes g.consumed kept,
-  at_end before a b g.bytes chunk g.consumed none end kept,
-)

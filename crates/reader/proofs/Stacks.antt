@@ -1,13 +1,12 @@
 -- The nodes that the parser holds, from one state to the next.
 use Rattle.std.proofs.Common.{◌≡◌, ℕ, suc, ◌+◌, ◌≤◌, List, [], ◌∷◌, ◌++◌, length, set, Some, None, sym, refl, ap, ◌∙◌, append_assoc, append-nil, arith, length-append}
 use Rattle.std.proofs.lemmas.List.{get_or_at, set_at}
-use Rattle.terms.specs.declared.symbol.Symbol.{Symbol}
 use Rattle.terms.specs.declared.node.Node.{Node}
 use Rattle.terms.specs.Term.{Term, variable, instrument, apply, Terms, nil, cons, symbols, symbols_in}
 use Rattle.terms.specs.Nodes.{vacant, start, laid, laid_row, with_next}
 use Rattle.terms.proofs.Laying.{length-laid}
 use Rattle.reading.specs.Reading.{Context, top, within, and_then}
-use Rattle.reader.specs.Parsing.{operator_node, linked, stack_nodes, stack_frames, Leaf}
+use Rattle.reader.specs.Parsing.{operator_node, linked, stack_nodes, stack_frames}
 
 start_then : (i : ℕ) (ts : Terms) (t : Term) → start i (and_then ts t) ≡ Some i
 start_then i nil t = refl
@@ -77,9 +76,3 @@ fewer_frames top = omega arith
 fewer_frames (within f a ts n k) =
     let ih = fewer_frames k in
     omega (arith, length-append (stack_nodes k) (operator_node f (length (stack_nodes k)) ∷ linked (suc (length (stack_nodes k))) ts))
-
--- a term without arguments is one node
-pub leaf_laid : (y : Symbol) (t : Term) (i : ℕ) → Leaf y t → laid i None t ≡ record { symbol = Some y; first = None; next = None } ∷ []
-leaf_laid y (variable x) i e = ap (λ s. record { symbol = Some s; first = None; next = None } ∷ []) (sym e)
-leaf_laid y (instrument n) i e = ap (λ s. record { symbol = Some s; first = None; next = None } ∷ []) (sym e)
-leaf_laid y (apply f ts) i e = ap (λ l. laid i None (apply f l)) e.1 ∙ ap (λ s. record { symbol = Some s; first = None; next = None } ∷ []) (sym e.0)

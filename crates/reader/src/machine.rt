@@ -30,7 +30,7 @@ pub trait Machine {
     // That an output is a value.
     ghost gives: { Self.Output → Value → Type 0 };
 
-    // The same in code. A method: no constant is proved yet in an impl whose type has a lifetime.
+    // `most_bytes` in code: a method, since a constant gets no proof in an impl whose type has a lifetime.
     fn limit(&self) -> usize
         ensures { result ≡ most_bytes };
 

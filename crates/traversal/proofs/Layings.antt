@@ -72,16 +72,6 @@ laying_layable sig v p n k item stack before old new some less e l =
       low = omega (arith, l.little, ap weight e, some.few);
     }
 
-none_pending : (v : Answers) (stack : List Pending) (us : Terms) → stack ≡ [] → StandAll v (places stack) us → symbols_in us ≡ 0
-none_pending v stack nil e s = refl
-none_pending v stack (cons t ts) e s = absurd (subst (λ x. StandAll v (places x) (cons t ts)) e s)
-
--- while symbols are left, the stack is not empty
-pub laying_some : (sig : Sig) (v : Answers) (p n k : ℕ) (stack : List Pending) (old new : Writer) → SomeOfSize v p n → k < n → stack ≡ [] → Laying sig v p n k stack old new → ⊥
-laying_some sig v p n k stack old new some less e l =
-    let one = l.rest some.term some.is in
-    omega (arith, one.2, none_pending v stack one.0 e one.1)
-
 no_symbols : (sig : Sig) (v : Answers) (stack : List Pending) (us : Terms) → symbols_in us ≡ 0 → StandAll v (places stack) us → pending_text sig stack us ≡ []
 no_symbols sig v [] us e s = refl
 no_symbols sig v (item ∷ es) nil e s = refl

@@ -36,9 +36,6 @@ over_behind p (y ∷ b) (x ∷ w) n e h =
 pub over_front : (b w : List ℕ) → length w ≤ length b → over b 0 w ≡ w ++ drop (length w) b
 over_front b w h = over_behind [] b w 0 refl h
 
-pub lays_as : {xs ys b c : List ℕ} {i r : ℕ} → xs ≡ ys → Lays xs b i c r → Lays ys b i c r
-lays_as {b = b} {c = c} {i = i} {r = r} e p = subst (λ l. Lays l b i c r) e p
-
 pub puts_none : (w : Writer) → Puts [] w w
 puts_none w = record { lays = lays_none w.buffer.now w.len; same_buffer = refl }
 

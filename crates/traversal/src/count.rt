@@ -37,7 +37,8 @@ fn visit<V: TermView>(view: &V, place: u16, stack: &mut FixedVec<u16, MOST>) -> 
     }
 }
 
-// Puts the places of the arguments of a place onto the stack, the first on top.
+// Puts the places of the arguments of a place onto the stack, the first on top. In writing an item carries more, from one to the next,
+// so that has a loop of its own.
 fn push_arguments<V: TermView>(
     view: &V,
     place: u16,

@@ -57,7 +57,7 @@ impl Heading {
         ensures { Headed result (wants_count (a_number digits.now) (sig_of self.old.signature) operator at) (head_of self.new) }
     {
         let count = number(digits, LARGEST_COUNT).ok_or(TextFault::BadNumber(at))?;
-        // where no such operator is declared nothing is set, as in the definition
+        // The count is at most 3, and so is kept; where no such operator is declared nothing is set, as in the definition.
         let _ = self.signature.rank(operator, count as u8);
         self.stage = Stage::HasCount(operator);
         Ok(())
@@ -67,7 +67,7 @@ impl Heading {
     fn is_followed(&self, operator: u8) -> bool
         ensures { result ≡ nat_lt (suc operator) (length (sig_of self.now.signature)) }
     {
-        (operator as usize) + 1 < self.signature.len()
+        usize::from(operator) + 1 < self.signature.len()
     }
 }
 

@@ -25,6 +25,7 @@ impl<'b> Writer<'b> {
         self.len
     }
 
+    // One byte. By index: after `get_mut` nothing is known of the other bytes.
     pub(super) fn put(&mut self, byte: u8)
         requires { HasRoom self.old 1 }
         ensures { Puts (byte ∷ []) self.old self.new }
@@ -36,6 +37,7 @@ impl<'b> Writer<'b> {
         self.len += 1;
     }
 
+    // Bytes, one after another.
     pub(super) fn put_all(&mut self, bytes: &[u8])
         requires { HasRoom self.old (length bytes.now) }
         ensures { Puts bytes.now self.old self.new }

@@ -3,11 +3,8 @@ use Rattle.std.specs.Io.BufRead.{FillKeeps}
 use Rattle.std.specs.Io.KnownBytes.{Consumes}
 use Rattle.std.proofs.lemmas.List.{take_all}
 use Rattle.std.proofs.BufReadLemmas.{Consumes_shown}
-use Rattle.console.proofs.Endings.{whole_chunk, line_found, found_within, no_chunk}
+use Rattle.console.proofs.Endings.{whole_chunk, line_found, found_within}
 use Rattle.console.proofs.line.Line.read_from.Goals as goal
-
-pub returns-then-is_empty : goal.returns-then-is_empty
-returns-then-is_empty g c = no_chunk _ _ _ _ _ c.loop.invariant c.in_ok-chunk.chunk.now (search rules) c.in_ok-chunk.ensures.end c.fill_buf.follows.holds-at-none.0
 
 pub returns-in-Some : goal.returns-in-Some
 returns-in-Some g c =
