@@ -1,5 +1,5 @@
 -- A line that is read from a reader, chunk by chunk.
-use Rattle.std.proofs.Common.{◌≡◌, ℕ, ◌<◌, ◌≤◌, true, List, [], ◌∷◌, ◌++◌, length, take, Some, None, Option, sym, ap, ◌∙◌, subst, arith, append_assoc, length-append}
+use Rattle.std.proofs.Common.{◌≡◌, ℕ, ◌+◌, ◌<◌, ◌≤◌, true, List, [], ◌∷◌, ◌++◌, length, take, Some, None, Option, sym, ap, ◌∙◌, subst, arith, append_assoc, length-append}
 use Rattle.std.specs.Io.KnownBytes.{Consumes}
 use Rattle.std.proofs.KnownBytes.{Consumes-trans}
 use Rattle.std.proofs.lemmas.List.{take_at}
@@ -16,11 +16,12 @@ EndsSo (Some LineEnd) bs = ⊥
 EndsSo (Some InputEnd) bs = 0 < length bs
 
 -- what the loop over the chunks keeps
-pub record Collecting (before now : Option (List ℕ)) (s : Seen) (ending : Option Ending) : Type 0 where
+pub record Collecting (before now : Option (List ℕ)) (s : Seen) (ending : Option Ending) (chunks : ℕ) : Type 0 where
   pub bytes : List ℕ
   pub collected : Collected bytes s
   pub consumed : Consumes before now bytes
   pub ends : EndsSo ending bytes
+  pub many : chunks ≤ length bytes
 
 collected_more : (xs ys : List ℕ) (s t : Seen) → Collected xs s → t ≡ more s ys → no_line_end ys ≡ true → Collected (xs ++ ys) t
 collected_more xs ys s t c e h = record {
@@ -34,14 +35,15 @@ found_within chunk s t n w =
     let (front, rest, split, clean, many, read) = w in
     omega (arith, many, ap length split, length-append front (10 ∷ rest))
 
-module _ (before a b : Option (List ℕ)) (s t : Seen) (ending : Option Ending) (g : Collecting before a s ending) where
+module _ (before a b : Option (List ℕ)) (s t : Seen) (ending : Option Ending) (chunks : ℕ) (g : Collecting before a s ending chunks) where
   -- a chunk without a line end is collected whole
-  pub whole_chunk : (chunk : List ℕ) → 0 < length chunk → Taken s chunk t None → Consumes a b chunk → Collecting before b t (Some InputEnd)
+  pub whole_chunk : (chunk : List ℕ) → 0 < length chunk → Taken s chunk t None → Consumes a b chunk → Collecting before b t (Some InputEnd) (chunks + 1)
   whole_chunk chunk some w q = record {
     bytes = g.bytes ++ chunk;
     collected = collected_more g.bytes chunk s t g.collected w.0 w.1;
     consumed = Consumes-trans before a b g.bytes chunk g.consumed q;
     ends = omega (arith, length-append g.bytes chunk);
+    many = omega (arith, length-append g.bytes chunk, g.many);
   }
 
   -- a line end ends the line

@@ -1,5 +1,5 @@
 -- A line that is read from a reader.
-use Rattle.std.specs.Prelude.{◌≡◌, ℕ, ◌<◌, true, List, [], ◌∷◌, ◌++◌, length, Some, None, Option, OnSome, Ok, Err, Result}
+use Rattle.std.specs.Prelude.{◌≡◌, ℕ, ◌+◌, ◌^◌, ◌<◌, ◌≤◌, ◌⊎◌, true, List, [], ◌∷◌, ◌++◌, length, Some, None, Option, OnSome, Ok, Err, Result}
 use Rattle.std.specs.Io.KnownBytes.{Consumes, IsAtEnd}
 use Rattle.console.specs.declared.line.Ending.{Ending}
 use Rattle.console.specs.declared.line.Ending.TheVariants.{LineEnd, InputEnd}
@@ -11,10 +11,11 @@ pub record Collected (bs : List ℕ) (s : Seen) : Type 0 where
   pub clean : no_line_end bs ≡ true
 
 -- What a reader has left before and after a line, where it is known, what is read of the line, and how it ended: the bytes of the line
--- are gone from the reader, and its line end with them. Where the input ends the line, or there is none, nothing is left.
+-- are gone from the reader, and its line end with them. Where the input ends the line, or there is none, nothing is left; the input
+-- is also taken to end where a line has grown past all counting.
 abbrev pub Ends : Option (List ℕ) → Option (List ℕ) → Seen → Option Ending → Type 0
 Ends before after s (Some LineEnd) = (bs : List ℕ) × Collected bs s × Consumes before after (bs ++ 10 ∷ [])
-Ends before after s (Some InputEnd) = (bs : List ℕ) × (0 < length bs) × Collected bs s × Consumes before after bs × OnSome before (IsAtEnd after)
+Ends before after s (Some InputEnd) = (bs : List ℕ) × (0 < length bs) × Collected bs s × Consumes before after bs × (OnSome before (IsAtEnd after) ⊎ (2 ^ 64 ≤ length bs + 1))
 Ends before after s None = (s ≡ whole_line []) × Consumes before after [] × OnSome before (IsAtEnd after)
 
 -- where reading fails, what came before is collected

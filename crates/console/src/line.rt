@@ -4,7 +4,7 @@ ghost use Rattle.console.specs.Endings.{ReadsLine};
 
 use fixed_vec::FixedVec;
 use std::io;
-use std::io::{BufRead, ErrorKind};
+use std::io::BufRead;
 
 // How many bytes a line may have, without its end.
 pub const LINE_BYTES: usize = 4200;
@@ -63,7 +63,7 @@ impl Line {
     {
         self.clear();
         let mut ending = None;
-        // a reader may have no end, so the chunks are counted
+        // a reader may have no end, so the chunks are counted, and a line ends behind the last
         for _ in 0..u64::MAX {
             let chunk = reader.fill_buf()?;
             if chunk.is_empty() {
@@ -77,7 +77,7 @@ impl Line {
             reader.consume(len);
             ending = Some(Ending::InputEnd);
         }
-        Err(ErrorKind::Other.into())
+        Ok(ending)
     }
 
     // Back to nothing read.
