@@ -4,7 +4,7 @@ use Rattle.terms.specs.declared.symbol.Symbol.{Symbol}
 use Rattle.terms.specs.declared.symbol.Symbol.TheVariants.{Variable, Instrument, Operator}
 use Rattle.terms.specs.Term.{Term, variable, instrument, apply, Terms, nil, cons, symbols, symbols_in}
 use Rattle.terms.specs.View.{Answers, Stands, StandFrom}
-use Rattle.traversal.specs.Rows.{ahead, row_from, row_of, padded, in_front, filled, StandAll, Many}
+use Rattle.traversal.specs.Rows.{ahead, row_from, row_of, in_front, filled, StandAll, Many}
 
 pub never : {X : Type 0} (o : Option X) (x : X) → o ≡ None → o ≡ Some x → ⊥
 never o x e h = let z : ◌≡◌ {A = ℕ} 0 1 = cc in omega arith
@@ -117,14 +117,6 @@ ahead_short (Some q) ps n h = omega arith
 pub row_short : (v : Answers) (p n k : ℕ) → length (row_from v p k n) ≤ n
 row_short v p zero k = omega arith
 row_short v p (suc n) k = ahead_short (v.argument p k) (row_from v p (suc k) n) n (row_short v p n (suc k))
-
--- the slots of a row, the last first, are put before what was there
-pub filled_padded : (row : List ℕ) (xs : List (Option ℕ)) (ps : List ℕ) → xs ≡ padded row → length row ≤ 3 → filled (slice_index_or xs 2 None ∷ slice_index_or xs 1 None ∷ slice_index_or xs 0 None ∷ []) ps ≡ row ++ ps
-filled_padded [] xs ps e few = rw e refl
-filled_padded (p ∷ []) xs ps e few = rw e refl
-filled_padded (p ∷ q ∷ []) xs ps e few = rw e refl
-filled_padded (p ∷ q ∷ r ∷ []) xs ps e few = rw e refl
-filled_padded (p ∷ q ∷ r ∷ s ∷ row) xs ps e few = absurd (let z : ⊥ = omega arith in z)
 
 pub filled_more : (os : List (Option ℕ)) (i : ℕ) (o : Option ℕ) (ps qs t : List ℕ) → i < length os → slice_index_or os i None ≡ o → qs ≡ in_front o ps → filled (drop i os) ps ≡ t → filled (drop (i + 1) os) qs ≡ t
 filled_more os i o ps qs t h is put e =

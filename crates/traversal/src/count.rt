@@ -49,9 +49,8 @@ fn push_arguments<V: TermView>(
 {
     let [first, second, third] = arguments(view, place);
     for slot in [third, second, first] {
-        match slot {
-            Some(argument) => stack.push(argument)?,
-            None => {}
+        if let Some(argument) = slot {
+            stack.push(argument)?;
         }
     }
     Ok(())

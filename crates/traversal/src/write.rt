@@ -29,9 +29,7 @@ pub fn write_text<V: TermView>(
 ) -> Result<usize, Unwritten>
     ensures { Written (sig_of signature.now) (V.answers view.now) place buffer.old buffer.new result }
 {
-    let Some(n) = count_symbols(view, place) else {
-        return Err(Unwritten::NoTerm);
-    };
+    let n = count_symbols(view, place).ok_or(Unwritten::NoTerm)?;
     let len = lay_text(signature, view, place, n, &mut []);
     if len > buffer.len() {
         return Err(Unwritten::TooShort);
