@@ -1,3 +1,4 @@
+pub mod Slots
 pub mod Rows
 pub mod Visits
 pub mod Counts

@@ -4,7 +4,9 @@ use Rattle.terms.specs.declared.symbol.Symbol.{Symbol}
 use Rattle.terms.specs.declared.symbol.Symbol.TheVariants.{Variable, Instrument, Operator}
 use Rattle.terms.specs.Term.{Term, variable, instrument, apply, Terms, nil, cons, symbols, symbols_in}
 use Rattle.terms.specs.View.{Answers, Stands, StandFrom}
-use Rattle.traversal.specs.Rows.{ahead, row_from, row_of, in_front, filled, StandAll, Many}
+use Rattle.traversal.specs.Rows.{ahead, row_from, row_of, StandAll, Many}
+use Rattle.traversal.proofs.Slots.{filled}
+use Rattle.std.specs.List.{cons_option}
 
 pub never : {X : Type 0} (o : Option X) (x : X) → o ≡ None → o ≡ Some x → ⊥
 never o x e h = let z : ◌≡◌ {A = ℕ} 0 1 = cc in omega arith
@@ -118,9 +120,9 @@ pub row_short : (v : Answers) (p n k : ℕ) → length (row_from v p k n) ≤ n
 row_short v p zero k = omega arith
 row_short v p (suc n) k = ahead_short (v.argument p k) (row_from v p (suc k) n) n (row_short v p n (suc k))
 
-pub filled_more : (os : List (Option ℕ)) (i : ℕ) (o : Option ℕ) (ps qs t : List ℕ) → i < length os → slice_index_or os i None ≡ o → qs ≡ in_front o ps → filled (drop i os) ps ≡ t → filled (drop (i + 1) os) qs ≡ t
+pub filled_more : (os : List (Option ℕ)) (i : ℕ) (o : Option ℕ) (ps qs t : List ℕ) → i < length os → slice_index_or os i None ≡ o → qs ≡ cons_option o ps → filled (drop i os) ps ≡ t → filled (drop (i + 1) os) qs ≡ t
 filled_more os i o ps qs t h is put e =
-    ap (filled (drop (i + 1) os)) (put ∙ ap (λ x. in_front x ps) (sym is))
+    ap (filled (drop (i + 1) os)) (put ∙ ap (λ x. cons_option x ps) (sym is))
     ∙ sym (ap (λ l. filled l ps) (drop-cons os i None h ∙ ap (λ k. slice_index_or os i None ∷ drop k os) (sym (add-one i))))
     ∙ e
 

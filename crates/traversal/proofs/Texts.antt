@@ -14,8 +14,9 @@ use Rattle.traversal.specs.declared.pending.Pending.{Pending}
 use Rattle.traversal.specs.Rows.{ahead, row_from, row_of, padded, StandAll}
 use Rattle.traversal.specs.declared.write.writer.Writer.{Writer}
 use Rattle.traversal.specs.Bytes.{Puts}
-use Rattle.traversal.specs.Pendings.{lead_text, symbol_text, places, pending_text, weight, others, children, heaped, Spread, Taken, Stepped}
+use Rattle.traversal.specs.Pendings.{lead_text, symbol_text, places, pending_text, weight, others, children, Spread, Taken, Stepped}
 use Rattle.traversal.proofs.Rows.{top, under, both, symbols_under, symbols_both, stands_top, stands_under, from_to_all, join, row_short}
+use Rattle.traversal.proofs.Slots.{heaped}
 
 text_under : (sig : Sig) (t : Term) → text_of sig t ≡ symbol_text sig (Some (top t)) ++ arguments_text sig (under t)
 text_under sig (variable x) = refl

@@ -7,8 +7,9 @@ use Rattle.terms.specs.View.{Answers, Stands}
 use Rattle.traversal.specs.Walks.{most_symbols}
 use Rattle.std.specs.Result.{IsErr, result_ok}
 use Rattle.fixed_vec.specs.declared.Full.{Full}
-use Rattle.traversal.specs.Rows.{row_of, filled, Many, PutBefore, Visited}
+use Rattle.traversal.specs.Rows.{row_of, Many, PutBefore, Visited}
 use Rattle.traversal.proofs.Rows.{never, top, stands_top, length_le_symbols, opened, closed, row_none, filled_more, filled_long}
+use Rattle.traversal.proofs.Slots.{filled}
 
 -- no room for the rest of a row
 pub refused : (r : Result (Unit {0}) Full) (row mid before after : List ℕ) (os : List (Option ℕ)) (i x : ℕ) → IsErr r → i < length os → slice_index_or os i None ≡ Some x → filled (drop i os) mid ≡ row ++ before → 16384 ≤ length mid → PutBefore row before after r

@@ -58,12 +58,6 @@ children c [] = []
 children c (p ∷ []) = record { place = p; lead = Some Opening; closings = c } ∷ []
 children c (p ∷ q ∷ ps) = record { place = p; lead = Some Opening; closings = 0 } ∷ others c (q ∷ ps)
 
--- what stands in slots, the last first and each with its lead, is put before what was there, with so many closing parentheses after the last
-abbrev pub heaped : ℕ → List (Option ℕ × Lead) → List Pending → List Pending
-heaped c [] es = es
-heaped c ((None, l) ∷ xs) es = heaped c xs es
-heaped c ((Some p, l) ∷ xs) es = heaped 0 xs (record { place = p; lead = Some l; closings = c } ∷ es)
-
 -- the row that stands in the slots is put onto the stack; or there is no room for it
 abbrev pub Spread : ℕ → List (Option ℕ) → List Pending → List Pending → Result (Unit {0}) Full → Type 0
 Spread c slots before after (Ok u) = (row : List ℕ) → slots ≡ padded row → length row ≤ 3 → after ≡ children c row ++ before

@@ -26,16 +26,6 @@ padded (p ∷ []) = Some p ∷ None ∷ None ∷ []
 padded (p ∷ q ∷ []) = Some p ∷ Some q ∷ None ∷ []
 padded (p ∷ q ∷ r ∷ ps) = Some p ∷ Some q ∷ Some r ∷ []
 
--- a place before others, if there is one; else those others
-abbrev pub in_front : Option ℕ → List ℕ → List ℕ
-in_front None ps = ps
-in_front (Some p) ps = p ∷ ps
-
--- what stands in slots, the last first, is put before what was there
-abbrev pub filled : List (Option ℕ) → List ℕ → List ℕ
-filled [] ps = ps
-filled (o ∷ os) ps = filled os (in_front o ps)
-
 -- the terms stand at the places, each at its own
 abbrev pub StandAll : Answers → List ℕ → Terms → Type 0
 StandAll v [] nil = Unit {0}

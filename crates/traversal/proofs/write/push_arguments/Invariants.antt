@@ -1,6 +1,6 @@
 use Rattle.std.proofs.Common.{◌≡◌, drop}
 use Rattle.fixed_vec.specs.FixedVec.{content}
-use Rattle.traversal.specs.Pendings.{heaped}
+use Rattle.traversal.proofs.Slots.{heaped}
 use Rattle.traversal.proofs.write.push_arguments.Given as goal
 
 abbrev pub invariant-loop-slot : goal.invariant-loop-slot
