@@ -11,7 +11,8 @@ mod tests {
     use reading::refusal::{Layer, Refusal};
     use signature::Signature;
     use std::alloc::{AllocError, Global};
-    use std::io::BufReader;
+    use std::io;
+    use std::io::{BufReader, ErrorKind, Read};
     use std::test::Fail;
 
     fn declared() -> Result<Signature, Fail> {
@@ -118,6 +119,41 @@ mod tests {
             assert_eq!(rt; line.read_from(&mut reader)?, ending);
             assert_eq!(rt; line.text(), Some(bytes));
         }
+        Ok(())
+    }
+
+    // Gives a byte at a time, and fails behind the last.
+    #[derive(Drop)]
+    struct Failing {
+        bytes: &'static [u8],
+    }
+
+    impl Read for Failing {
+        fn read(&mut self, buf: &mut [u8]) -> io::Result<usize> {
+            let [first, rest @ ..] = self.bytes else {
+                return Err(ErrorKind::Other.into());
+            };
+            if buf.is_empty() {
+                return Ok(0);
+            }
+            buf[0] = *first;
+            self.bytes = rest;
+            Ok(1)
+        }
+    }
+
+    #[test]
+    fn a_failing_reader_ends_a_line_with_its_error(rt: HostRuntime) -> Result<(), Fail> {
+        let failing = Failing {
+            bytes: b"nil\nneg(",
+        };
+        let mut reader = BufReader::with_capacity(rt.alloc(), 3, failing)?;
+        let mut line = Line::new();
+        assert_eq!(rt; line.read_from(&mut reader)?, Some(Ending::LineEnd));
+        assert!(rt; line.read_from(&mut reader).is_err());
+        assert_eq!(rt; line.text(), Some(b"neg(".as_slice()));
+        assert!(rt; line.read_from(&mut reader).is_err());
+        assert_eq!(rt; line.text(), Some(b"".as_slice()));
         Ok(())
     }
 
