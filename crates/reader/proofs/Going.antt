@@ -4,8 +4,8 @@ use Rattle.std.specs.Result.{IsErrAnd}
 use Rattle.reading.specs.declared.token.At.{At}
 use Rattle.reading.specs.Tokens.{Tok, tokens}
 use Rattle.reading.specs.Reading.{run_with}
-use Rattle.reader.specs.declared.token.Lexer.{Lexer}
-use Rattle.reader.specs.Lexing.{what_is_left}
+use Rattle.lexer.specs.declared.token.Lexer.{Lexer}
+use Rattle.lexer.specs.Lexing.{what_is_left}
 
 -- a result that is an error, and that one
 pub is_err : {O E : Type 0} (r : Result O E) (f : E) → IsErrAnd r (λ e. e ≡ f) → r ≡ Err f

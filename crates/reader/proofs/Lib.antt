@@ -1,5 +1,3 @@
-pub mod Runs
-pub mod Values
 pub mod Headings
 pub mod Stacks
 pub mod Parsing

@@ -1,4 +1,3 @@
-pub mod Lexing
 pub mod Heading
 pub mod Machine
 pub mod Parsing

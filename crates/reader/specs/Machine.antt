@@ -3,8 +3,8 @@ use Rattle.std.specs.Prelude.{◌≡◌, ℕ, ◌<◌, ◌≤◌, List, length, 
 use Rattle.reading.specs.declared.token.At.{At}
 use Rattle.reading.specs.Tokens.{Tok, token_bytes, tokens, origin, past}
 use Rattle.reading.specs.Reading.{run_with}
-use Rattle.reader.specs.declared.token.Lexeme.{Lexeme}
-use Rattle.reader.specs.Lexing.{meaning}
+use Rattle.lexer.specs.declared.token.Lexeme.{Lexeme}
+use Rattle.lexer.specs.Lexing.{meaning}
 
 -- the definition of a reading: a step for each token, and the end of the text
 pub record Rules (S A E : Type 0) : Type 0 where

@@ -15,7 +15,7 @@ pub const SHEET_BYTES: usize = 32768;
 
 // What is read so far of the lines that head a sheet: the operators, and what may come.
 #[derive(Clone, Copy)]
-struct Heading {
+pub struct Heading {
     signature: Signature,
     stage: Stage,
 }

@@ -2,10 +2,6 @@
 #![tactic(auto)]
 
 pub mod heading;
-mod judging;
-mod lexer;
-mod machine;
-mod number;
+pub mod machine;
 mod parser;
 pub mod ticket;
-mod token;

@@ -3,7 +3,7 @@ ghost use Rattle.reading.specs.declared.fault.TextFault.TheVariants.{PastLimit};
 ghost use Rattle.reading.specs.Tokens.{origin};
 ghost use Rattle.reader.specs.Machine.{Rules, run_by, IsWithin, Advances, Finished};
 
-use crate::token::{Lexeme, Lexer};
+use lexer::token::{Lexeme, Lexer};
 use reading::fault::TextFault;
 use reading::token::At;
 

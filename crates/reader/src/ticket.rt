@@ -9,7 +9,7 @@ ghost use Rattle.reader.specs.Ticket.{Reads};
 
 use crate::machine::{Machine, read};
 use crate::parser::Parser;
-use crate::token::Lexeme;
+use lexer::token::Lexeme;
 use reading::fault::TextFault;
 use reading::token::At;
 use signature::Signature;

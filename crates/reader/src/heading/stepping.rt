@@ -1,15 +1,15 @@
-ghost use Rattle.std.specs.Prelude.{◌≡◌, suc, [], length, nat_lt};
+ghost use Rattle.std.specs.Prelude.{◌≡◌, ◌↔◌, suc, [], length, nat_lt, IsTrue};
 ghost use Rattle.signature.specs.Declaring.{sig_of};
 ghost use Rattle.reading.specs.Tokens.{a_name, a_number};
-ghost use Rattle.reading.specs.declared.heading.Stage.TheVariants.{WantsName};
+ghost use Rattle.reading.specs.declared.heading.Stage.TheVariants.{WantsName, Done};
 ghost use Rattle.terms.specs.Signature.{Sig};
 ghost use Rattle.reading.specs.Heading.{Head, wants_name, wants_count, head_step, head_end};
 ghost use Rattle.reader.specs.Heading.{head_of, Headed, why_not};
 
 use super::{Heading, SHEET_BYTES};
 use crate::machine::Machine;
-use crate::number::number;
-use crate::token::{Lexeme, Name, Token};
+use lexer::number::number;
+use lexer::token::{Lexeme, Name, Token};
 use reading::fault::{SheetFault, TextFault};
 use reading::heading::Stage;
 use reading::token::{At, Mark};
@@ -39,6 +39,13 @@ impl Heading {
             signature: Signature::new(),
             stage: Stage::WantsName,
         }
+    }
+
+    // Whether nothing more may come: the lines are read to their end.
+    pub fn is_done(&self) -> bool
+        ensures { IsTrue result ↔ ((head_of self.now).1 ≡ Done) }
+    {
+        self.stage == Stage::Done
     }
 
     // A name, where one may come.

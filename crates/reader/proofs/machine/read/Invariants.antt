@@ -1,5 +1,5 @@
 use Rattle.std.proofs.Common.{◌≡◌, length}
-use Rattle.reader.specs.Lexing.{what_is_left}
+use Rattle.lexer.specs.Lexing.{what_is_left}
 use Rattle.reader.specs.Machine.{run_by}
 use Rattle.reader.proofs.Going.{Going}
 use Rattle.reader.proofs.machine.read.Given as goal

@@ -1,5 +1,5 @@
 use Rattle.signature.specs.Declaring.{sig_of}
-use Rattle.reader.specs.Lexing.{meaning}
+use Rattle.lexer.specs.Lexing.{meaning}
 use Rattle.reader.proofs.Sparse.{steps_on}
 use Rattle.reader.proofs.ticket.TicketReaderMachine.step.Goals as goal
 

@@ -1,5 +1,5 @@
 ghost use Rattle.std.specs.Prelude.{◌≡◌};
-ghost use Rattle.reader.specs.Lexing.{meaning};
+ghost use Rattle.lexer.specs.Lexing.{meaning};
 ghost use Rattle.reading.specs.declared.fault.TextFault.TheVariants.{Unexpected};
 ghost use Rattle.reading.specs.Reading.{fault_of};
 

@@ -32,7 +32,7 @@ pub struct Lexeme<'t> {
 // What is left of a text, and where that begins.
 #[derive(Clone, Copy)]
 pub struct Lexer<'t> {
-    pub rest: &'t [u8],
+    pub(crate) rest: &'t [u8],
     pub at: At,
     ghost fits: { at.place + length rest.now < 2 ^ 64 },
     ghost few: { at.line ≤ at.place },

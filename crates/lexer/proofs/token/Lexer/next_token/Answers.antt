@@ -1,9 +1,9 @@
 use Rattle.std.proofs.Common.{◌+◌, ◌≤◌, ◌∷◌, ◌++◌, length, drop, sym, refl, ap, ◌∙◌, arith, length-drop, rules}
 use Rattle.std.proofs.lemmas.Slice.{between_to_end}
 use Rattle.reading.specs.Tokens.{tokens, token_bytes}
-use Rattle.reader.specs.Lexing.{meaning}
+use Rattle.lexer.specs.Lexing.{meaning}
 use Rattle.reading.proofs.Tokens.{tokens_step}
-use Rattle.reader.proofs.token.Lexer.next_token.Goals as goal
+use Rattle.lexer.proofs.token.Lexer.next_token.Goals as goal
 
 pub slice_bounds-self-count : goal.slice_bounds-self-count
 slice_bounds-self-count c = let s = tokens_step c.args.self.now.rest.now (meaning c.in_ok-token.token) c.in_ok-token.ensures in omega arith

@@ -1,9 +1,9 @@
 -- What the code's tokens and lexer stand for.
 use Rattle.std.specs.Prelude.{◌≡◌, ℕ, ◌≤◌, List, [], ◌∷◌, ◌++◌, length, Some, None, Option}
-use Rattle.reader.specs.declared.token.Token.{Token}
-use Rattle.reader.specs.declared.token.Token.TheVariants.{Name, Number, Instrument, Variable, Mark, Stray}
-use Rattle.reader.specs.declared.token.Lexeme.{Lexeme}
-use Rattle.reader.specs.declared.token.Lexer.{Lexer}
+use Rattle.lexer.specs.declared.token.Token.{Token}
+use Rattle.lexer.specs.declared.token.Token.TheVariants.{Name, Number, Instrument, Variable, Mark, Stray}
+use Rattle.lexer.specs.declared.token.Lexeme.{Lexeme}
+use Rattle.lexer.specs.declared.token.Lexer.{Lexer}
 use Rattle.reading.specs.Tokens.{Tok, a_name, a_number, an_instrument, a_variable, a_mark, a_stray, token_bytes, tokens, past}
 
 -- a token by its bytes

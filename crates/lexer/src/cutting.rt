@@ -3,7 +3,7 @@ ghost use Rattle.reading.specs.Tokens.{front, single, first_token, first_of_text
 ghost use Rattle.std.specs.Fn.{ComputesKey};
 ghost use Rattle.std.specs.Option.{option_map};
 ghost use Rattle.terms.specs.Signature.{digit, word};
-ghost use Rattle.reader.specs.Lexing.{meaning, what_is_left, Lexed};
+ghost use Rattle.lexer.specs.Lexing.{meaning, what_is_left, Lexed};
 
 use crate::token::{Lexeme, Lexer, Name, Token};
 use reading::token::{At, Mark};

@@ -3,8 +3,8 @@ use Rattle.std.proofs.lemmas.Slice.{between_to_end}
 use Rattle.std.proofs.lemmas.Iterator.{YieldsList-from_slice, YieldsList-from_take}
 use Rattle.std.proofs.lemmas.Iterator.Consumers.{YieldsList-at, YieldsList-from_copied, count_from_yields_List}
 use Rattle.std.proofs.lemmas.Iterator.Search.{YieldsList-from_take_while}
-use Rattle.reader.proofs.Runs.{run_is}
-use Rattle.reader.proofs.lexer.run.Goals as goal
+use Rattle.lexer.proofs.Runs.{run_is}
+use Rattle.lexer.proofs.cutting.run.Goals as goal
 
 pub returns : goal.returns
 returns g c = λ p d.

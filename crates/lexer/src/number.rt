@@ -5,7 +5,7 @@ ghost use Rattle.reading.specs.Numbers.{plain, value_after, up_to, numbered, ins
 const LARGEST_INSTRUMENT: u32 = 999_999;
 
 // Whether there are digits, with no needless zero in front.
-pub fn is_plain(digits: &[u8]) -> bool
+pub(crate) fn is_plain(digits: &[u8]) -> bool
     ensures { result ≡ plain digits.now }
 {
     match digits {
