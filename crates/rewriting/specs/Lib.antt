@@ -1,0 +1,10 @@
+pub mod Rules
+pub mod Step
+pub mod Inductive
+pub mod Reduction
+pub mod Bindings
+pub mod Next
+pub mod Unifier
+pub mod Order
+pub mod Convergent
+pub mod Laws
