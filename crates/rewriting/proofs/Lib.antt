@@ -5,3 +5,9 @@ pub mod Finding
 pub mod Matching
 pub mod General
 pub mod Sound
+pub mod Tickets
+pub mod Peaks
+pub mod Nexts
+pub mod Converging
+pub mod Overlapping
+pub mod Orders

@@ -47,6 +47,18 @@ module _ {A : Type 0} {R : A → A → Type 0} where
   normal_end n done = refl
   normal_end n (more {b = b} r p) = absurd (n b r)
 
-  -- two normal forms that both ends of a peak reduce to are the same
-  pub joined_normal : {a b : A} → Normal R a → Normal R b → Joinable R a b → a ≡ b
-  joined_normal n m j = normal_end n j.1 ∙ sym (normal_end m j.2)
+  -- two that can be joined have one normal form
+  pub same_normal : ((a b c : A) → R a b → R a c → Joinable R b c) → {a b : A} → Ends R a → Ends R b → Joinable R a b → {x y : A} → Reduces R a x → Normal R x → Reduces R b y → Normal R y → x ≡ y
+  same_normal w a b j p n q m =
+      let (e, x, d) = newman w a p j.1 in
+      let (g, y, k) = newman w b q (reduces_trans j.2 d) in
+      normal_end n (reduces_trans x k) ∙ sym (normal_end m y)
+
+  -- what steps lead to from one end of a conversion, and what they lead from, is an end of one too
+  pub conversion_along : {P : A → Type 0} → ((a b : A) → R a b → P a → P b) → {a b c : A} → P a → Reduces R a b → Conversion P R b c → Conversion P R a c
+  conversion_along keeps h done c = c
+  conversion_along keeps {a = a} h (more {b = b} r p) c = on h (inl r) (conversion_along keeps (keeps a b r h) p c)
+
+  pub conversion_from : {P : A → Type 0} → ((a b : A) → R a b → P a → P b) → {a b c : A} → Reduces R a b → Conversion P R a c → Conversion P R b c
+  conversion_from keeps done c = c
+  conversion_from keeps {a = a} (more {b = b} r p) c = conversion_from keeps p (on (keeps a b r (conversion_first c)) (inr r) c)

@@ -1,16 +1,21 @@
--- What holds of steps, next steps, unifiers and convergent rules.
-use Rattle.std.specs.Prelude.{◌≡◌, List}
+-- What holds of steps, next steps, unifiers, orders and convergent rules.
+use Rattle.std.specs.Prelude.{◌≡◌, ℕ, ◌≤◌, List}
 use Rattle.std.proofs.Math.Option.{none, some}
 use Rattle.terms.specs.Term.{Term}
-use Rattle.terms.specs.Signature.{Sig}
-use Rattle.terms.specs.Ticket.{Ticket}
-use Rattle.terms.specs.Substitution.{Substitution, fill}
+use Rattle.terms.specs.Signature.{Sig, Declared}
+use Rattle.terms.specs.Ticket.{TermOf, Ticket}
+use Rattle.terms.specs.Position.{Position}
+use Rattle.terms.specs.Substitution.{Substitution, fill, occurrences, renamed}
 use Rattle.terms.specs.Rule.{Rule}
-use Rattle.rewriting.specs.Rules.{RulesOf}
+use Rattle.rewriting.specs.Rules.{left_of, RulesOf}
 use Rattle.rewriting.specs.Step.{Step}
 use Rattle.rewriting.specs.Inductive.{Rewrites}
-use Rattle.rewriting.specs.Reduction.{Normal}
-use Rattle.rewriting.specs.Next.{NextStep, next}
+use Rattle.rewriting.specs.Reduction.{Reduces, Joinable, Normal}
+use Rattle.rewriting.specs.Bindings.{Bindings, bound}
+use Rattle.rewriting.specs.Next.{NextStep, next, run, EndsAfter}
+use Rattle.rewriting.specs.Unifier.{unifier, Separate, Overlap, first_side, second_side}
+use Rattle.rewriting.specs.Order.{Relation, AllIn}
+use Rattle.rewriting.specs.Convergent.{Convergent, StepsEnd, OverlapsJoin, Converts, OneNormalForm}
 
 -- a step at a position is a step by induction on the term, and the reverse
 abbrev pub StepsAreInductive : Type 0
@@ -35,3 +40,49 @@ OneNextStep = (sig : Sig) (rules : List Rule) → RulesOf sig rules → (t u v :
 -- there is none exactly if no rule matches anywhere
 abbrev pub NoNextStep : Type 0
 NoNextStep = (sig : Sig) (rules : List Rule) → RulesOf sig rules → (t : Term) → (next rules t ≡ none → Normal (Step rules) t) × (Normal (Step rules) t → next rules t ≡ none)
+
+-- after so many next steps a term is one that it reduces to
+abbrev pub RunsReduce : Type 0
+RunsReduce = (sig : Sig) (rules : List Rule) → RulesOf sig rules → (n : ℕ) (t : Term) → Reduces (Step rules) t (run rules n t)
+
+-- renaming apart: a term over the signature, renamed, shares no variable with another
+abbrev pub RenamedApart : Type 0
+RenamedApart = (sig : Sig) (s t : Term) → TermOf sig s → TermOf sig t → (x : ℕ) → 1 ≤ occurrences x s → occurrences x (renamed t) ≡ 0
+
+-- the unifier of separate terms makes them equal
+abbrev pub UnifierUnifies : Type 0
+UnifierUnifies = (a b : Term) (m : Bindings) → Separate a b → unifier a b ≡ some m → fill (bound m) a ≡ fill (bound m) b
+
+-- it is most general: where a substitution makes two terms equal they have a unifier, and the substitution goes through it
+abbrev pub UnifierIsMostGeneral : Type 0
+UnifierIsMostGeneral = (a b : Term) (σ : Substitution) → fill σ a ≡ fill σ b → (m : Bindings) × (unifier a b ≡ some m) × ((t : Term) → fill σ (fill (bound m) t) ≡ fill σ t)
+
+-- from the outer left side, filled, one step leads to either side of an overlap
+abbrev pub OverlapsAreSteps : Type 0
+OverlapsAreSteps =
+    (sig : Sig) (rules : List Rule) → RulesOf sig rules → (outer inner : ℕ) (p : Position) (m : Bindings) → Overlap rules outer inner p m
+    → Step rules (fill (bound m) (left_of rules outer)) (first_side rules outer m) × Step rules (fill (bound m) (left_of rules outer)) (second_side rules outer inner p m)
+
+-- the critical pair lemma: where the sides of each overlap can be joined, so can what any two steps lead to from one term
+abbrev pub OverlapsSuffice : Type 0
+OverlapsSuffice = (sig : Sig) (rules : List Rule) → RulesOf sig rules → OverlapsJoin rules → (t u v : Term) → Step rules t u → Step rules t v → Joinable (Step rules) u v
+
+-- from every ticket the next steps end, after a number that rules and ticket alone fix
+abbrev pub NextStepsEnd : Type 0
+NextStepsEnd = (sig : Sig) (rules : List Rule) → RulesOf sig rules → StepsEnd sig rules → (t : Term) → Ticket sig t → (n : ℕ) × EndsAfter rules t n × ((k : ℕ) → EndsAfter rules t k → k ≡ n)
+
+-- the two ends of a conversion have one and the same normal form
+abbrev pub ConversionsMeet : Type 0
+ConversionsMeet = (sig : Sig) (rules : List Rule) → Convergent sig rules → (t u : Term) → Converts sig rules t u → OneNormalForm rules t u
+
+-- tickets that next steps lead to one and the same term are joined by a conversion
+abbrev pub EqualRunsConvert : Type 0
+EqualRunsConvert = (sig : Sig) (rules : List Rule) → RulesOf sig rules → (t u : Term) → Ticket sig t → Ticket sig u → (n m : ℕ) → run rules n t ≡ run rules m u → Converts sig rules t u
+
+-- of rules that an order with these relations orients strictly, steps from tickets end
+abbrev pub StrictlyOrientedEnd : (Rule → Type 0) → Type 0
+StrictlyOrientedEnd strict = (sig : Sig) → Declared sig → (rules : List Rule) → RulesOf sig rules → AllIn strict rules → StepsEnd sig rules
+
+-- of rules that a set has, each step leads from a ticket to one that the relation holds to
+abbrev pub StepsDescend : Relation → (Rule → Type 0) → Type 0
+StepsDescend R set = (sig : Sig) → Declared sig → (rules : List Rule) → RulesOf sig rules → AllIn set rules → (t u : Term) → Ticket sig t → Step rules t u → R t u

@@ -1,4 +1,5 @@
-// The theory of term rewriting: steps, next steps, conversions, overlaps, and the theorems on convergent rules.
+// The theory of term rewriting: steps, next steps, conversions, overlaps, orders, and the theorems on convergent rules.
 #![tactic(auto)]
 
 pub mod laws;
+pub mod order;

@@ -1,0 +1,8 @@
+use Rattle.rewriting.proofs.Overlapping.{unifier_unifies, unifier_most_general}
+use Rattle.rewriting.proofs.laws.unifiers_are_most_general.Goals as goal
+
+pub returns-clause-unifies : goal.returns-clause-unifies
+returns-clause-unifies c = unifier_unifies
+
+pub returns-clause-general : goal.returns-clause-general
+returns-clause-general c = unifier_most_general
