@@ -10,13 +10,15 @@ use Rattle.rewriting.specs.Rules.{RulesOf}
 use Rattle.rewriting.specs.Step.{Step}
 use Rattle.rewriting.specs.Reduction.{Reduces, done, more, Joinable, Ends, ends, alone}
 use Rattle.rewriting.specs.Next.{next, run, EndsAfter}
-use Rattle.rewriting.specs.Convergent.{OverlapsJoin, Converts}
-use Rattle.rewriting.specs.Laws.{RunsReduce, OverlapsSuffice, NextStepsEnd, ConversionsMeet, EqualRunsConvert}
+use Rattle.rewriting.specs.Convergent.{OverlapsJoin, OverlapsMeet, Converts}
+use Rattle.rewriting.specs.Laws.{RunsReduce, CriticalPairs, NoEndlessSteps, NextStepsEnd, ConversionsMeet, EqualRunsConvert, FormsDecide}
 use Rattle.rewriting.proofs.Filling.{none_some}
-use Rattle.rewriting.proofs.Reducing.{reduces_map, conversion_first, conversion_last, church_rosser, same_normal, conversion_along, conversion_from}
+use Rattle.rewriting.proofs.Reducing.{reduces_map, conversion_first, conversion_last, church_rosser, same_normal, no_endless, conversion_along, conversion_from}
 use Rattle.rewriting.proofs.Stepping.{step_rewrites, rewrites_step}
 use Rattle.rewriting.proofs.Tickets.{step_ticket}
 use Rattle.rewriting.proofs.Peaks.{peak}
+use Rattle.rewriting.proofs.Overlapping.{overlaps_are_steps}
+use Rattle.rewriting.specs.Unifier.{first_side, second_side}
 use Rattle.rewriting.proofs.Nexts.{next_some, next_step, none_normal}
 
 -- ---- runs
@@ -84,8 +86,11 @@ peaks_join over joins t u v a b =
 pub runs_reduce : RunsReduce
 runs_reduce sig rules over n t = run_reduces over n t
 
-pub overlaps_suffice : OverlapsSuffice
-overlaps_suffice sig rules over joins t u v a b = peaks_join over joins t u v a b
+pub critical_pairs : CriticalPairs
+critical_pairs sig rules over = (peaks_join over, λ joins outer inner p m o. let (a, b) = overlaps_are_steps sig rules over outer inner p m o in joins _ _ _ a b)
+
+pub no_endless_steps : NoEndlessSteps
+no_endless_steps sig rules ending ts tickets steps = no_endless (ending (ts 0) (tickets 0)) ts refl steps
 
 pub next_steps_end : NextStepsEnd
 next_steps_end sig rules over ending t h = let (n, a) = counted over (ending t h) in (n, a, λ k b. counted_once rules t n k a b)
@@ -117,3 +122,18 @@ equal_runs_convert sig rules over t u h k n m e =
     let keeps = λ (a b : Term) (r : Step rules a b) (j : Ticket sig a). step_ticket over r j in
     let back = conversion_from keeps (run_reduces over m u) (alone k) in
     conversion_along keeps h (run_reduces over n t) (subst (λ z. Converts sig rules z u) (sym e) back)
+
+pub forms_decide : FormsDecide
+forms_decide sig rules c t u h k n m a b = (same, equal_runs_convert sig rules c.over t u h k n m)
+  where
+    same : Converts sig rules t u → run rules n t ≡ run rules m u
+    same w =
+        same_normal (peaks_join c.over c.overlaps_join) (c.steps_end t h) (c.steps_end u k) (church_rosser (peaks_join c.over c.overlaps_join) c.steps_end w)
+        (run_reduces c.over n t) (none_normal c.over (run rules n t) a.ended) (run_reduces c.over m u) (none_normal c.over (run rules m u) b.ended)
+
+-- where runs meet, terms can be joined
+pub meeting_joins : {sig : Sig} {rules : List Rule} → RulesOf sig rules → OverlapsMeet rules → OverlapsJoin rules
+meeting_joins {sig} {rules} over meet outer inner p m o =
+    let (n, k, e) = meet outer inner p m o in
+    let b : Term = second_side rules outer inner p m in
+    (run rules n (first_side rules outer m), run_reduces over n (first_side rules outer m), subst (Reduces (Step rules) b) (sym e) (run_reduces over k b))

@@ -8,6 +8,8 @@ pub mod Sound
 pub mod Tickets
 pub mod Peaks
 pub mod Nexts
-pub mod Converging
 pub mod Overlapping
+pub mod Common
+pub mod Listing
+pub mod Converging
 pub mod Orders

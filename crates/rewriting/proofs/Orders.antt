@@ -9,8 +9,9 @@ use Rattle.rewriting.specs.Rules.{rule_at, left_of, right_of, RulesOf}
 use Rattle.rewriting.specs.Step.{Step}
 use Rattle.rewriting.specs.Reduction.{Ends, ends}
 use Rattle.rewriting.specs.Order.{Relation, Within, Orients, OrderLaws, AllIn}
-use Rattle.rewriting.specs.Laws.{StrictlyOrientedEnd, StepsDescend}
+use Rattle.rewriting.specs.Laws.{StrictlyOrientedEnd, StepsDescend, TestedConverge}
 use Rattle.rewriting.proofs.Filling.{fill_ext}
+use Rattle.rewriting.proofs.Converging.{meeting_joins}
 use Rattle.rewriting.proofs.Tickets.{variable_ticket, fill_ticket, part_ticket, step_ticket}
 
 -- the substitution, with an instrument for each variable that does not stand in the term
@@ -53,3 +54,7 @@ steps_greater greater at_least strict weak laws sig declared rules over all = le
 
 pub steps_at_least : (greater at_least : Relation) (strict weak : Rule → Type 0) → ((sig : Sig) → Declared sig → OrderLaws sig greater at_least strict weak) → StepsDescend at_least weak
 steps_at_least greater at_least strict weak laws sig declared rules over all = let law = laws sig declared in descends sig at_least weak law.at_least_within law.weakly rules over all
+
+pub tested_converge : (greater at_least : Relation) (strict weak : Rule → Type 0) → ((sig : Sig) → Declared sig → OrderLaws sig greater at_least strict weak) → TestedConverge strict
+tested_converge greater at_least strict weak laws sig declared rules over all meet =
+    record { over = over; steps_end = strictly_oriented_end greater at_least strict weak laws sig declared rules over all; overlaps_join = meeting_joins over meet }

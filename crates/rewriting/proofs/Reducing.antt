@@ -1,5 +1,5 @@
 -- Newman's lemma, the Church-Rosser property and uniqueness of normal forms, for any relation.
-use Rattle.std.proofs.Common.{◌≡◌, refl, sym, ◌∙◌, inl, inr}
+use Rattle.std.proofs.Common.{◌≡◌, refl, sym, ◌∙◌, subst, ℕ, suc, inl, inr}
 use Rattle.rewriting.specs.Reduction.{Reduces, done, more, Joinable, Normal, Ends, ends, Conversion, alone, on}
 
 pub reduces_map : {A B : Type 0} {R : A → A → Type 0} {S : B → B → Type 0} (f : A → B) → ((a b : A) → R a b → S (f a) (f b)) → {a b : A} → Reduces R a b → Reduces S (f a) (f b)
@@ -62,3 +62,7 @@ module _ {A : Type 0} {R : A → A → Type 0} where
   pub conversion_from : {P : A → Type 0} → ((a b : A) → R a b → P a → P b) → {a b c : A} → Reduces R a b → Conversion P R a c → Conversion P R b c
   conversion_from keeps done c = c
   conversion_from keeps {a = a} (more {b = b} r p) c = conversion_from keeps p (on (keeps a b r (conversion_first c)) (inr r) c)
+
+  -- where steps end there is no endless list of them
+  pub no_endless : {a : A} → Ends R a → (as' : ℕ → A) → as' 0 ≡ a → ((n : ℕ) → R (as' n) (as' (suc n))) → ⊥
+  no_endless (ends h) as' e steps = no_endless (h (as' 1) (subst (λ z. R z (as' 1)) e (steps 0))) (λ n. as' (suc n)) refl (λ n. steps (suc n))

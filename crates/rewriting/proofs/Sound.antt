@@ -53,7 +53,7 @@ mutual
       subst (λ z. binds x z ≤ (occurrences x t + occurrences_in x ts) + (occurrences x u + occurrences_in x us)) (sym r) (omega (arith, binds_append x a b))
 
 -- one_step binding, of a variable that does not stand in the term
-one_binding : (y : ℕ) (b : Term) → occurrences y b ≡ 0 → bound ((y, b) ∷ []) y ≡ fill (bound ((y, b) ∷ [])) b
+pub one_binding : (y : ℕ) (b : Term) → occurrences y b ≡ 0 → bound ((y, b) ∷ []) y ≡ fill (bound ((y, b) ∷ [])) b
 one_binding y b h =
     let p : bound ((y, b) ∷ []) y ≡ b = rw (eq-eqb y y refl) in
     p ∙ sym (fill_ext (bound ((y, b) ∷ [])) variable b (λ x k. go x k (x == y) refl) ∙ fill_variables b)

@@ -1,5 +1,5 @@
 -- What holds of steps, next steps, unifiers, orders and convergent rules.
-use Rattle.std.specs.Prelude.{◌≡◌, ℕ, ◌≤◌, List}
+use Rattle.std.specs.Prelude.{◌≡◌, ℕ, suc, ◌≤◌, List}
 use Rattle.std.proofs.Math.Option.{none, some}
 use Rattle.terms.specs.Term.{Term}
 use Rattle.terms.specs.Signature.{Sig, Declared}
@@ -10,12 +10,13 @@ use Rattle.terms.specs.Rule.{Rule}
 use Rattle.rewriting.specs.Rules.{left_of, RulesOf}
 use Rattle.rewriting.specs.Step.{Step}
 use Rattle.rewriting.specs.Inductive.{Rewrites}
-use Rattle.rewriting.specs.Reduction.{Reduces, Joinable, Normal}
+use Rattle.rewriting.specs.Reduction.{Reduces, Normal}
 use Rattle.rewriting.specs.Bindings.{Bindings, bound}
 use Rattle.rewriting.specs.Next.{NextStep, next, run, EndsAfter}
-use Rattle.rewriting.specs.Unifier.{unifier, Separate, Overlap, first_side, second_side}
+use Rattle.rewriting.specs.Positions.{ListsPositions, positions}
+use Rattle.rewriting.specs.Unifier.{unifier, common, Separate, Overlap, first_side, second_side}
 use Rattle.rewriting.specs.Order.{Relation, AllIn}
-use Rattle.rewriting.specs.Convergent.{Convergent, StepsEnd, OverlapsJoin, Converts, OneNormalForm}
+use Rattle.rewriting.specs.Convergent.{Convergent, StepsEnd, OverlapsJoin, PeaksJoin, OverlapsMeet, Converts, OneNormalForm}
 
 -- a step at a position is a step by induction on the term, and the reverse
 abbrev pub StepsAreInductive : Type 0
@@ -49,6 +50,10 @@ RunsReduce = (sig : Sig) (rules : List Rule) → RulesOf sig rules → (n : ℕ)
 abbrev pub RenamedApart : Type 0
 RenamedApart = (sig : Sig) (s t : Term) → TermOf sig s → TermOf sig t → (x : ℕ) → 1 ≤ occurrences x s → occurrences x (renamed t) ≡ 0
 
+-- without a unifier there is no term that two terms become; with one, if they are separate, it is what the unifier makes of them
+abbrev pub UnifierIsCommon : Type 0
+UnifierIsCommon = (a b : Term) → (unifier a b ≡ none → common a b ≡ none) × ((m : Bindings) → Separate a b → unifier a b ≡ some m → common a b ≡ some (fill (bound m) a))
+
 -- the unifier of separate terms makes them equal
 abbrev pub UnifierUnifies : Type 0
 UnifierUnifies = (a b : Term) (m : Bindings) → Separate a b → unifier a b ≡ some m → fill (bound m) a ≡ fill (bound m) b
@@ -63,9 +68,13 @@ OverlapsAreSteps =
     (sig : Sig) (rules : List Rule) → RulesOf sig rules → (outer inner : ℕ) (p : Position) (m : Bindings) → Overlap rules outer inner p m
     → Step rules (fill (bound m) (left_of rules outer)) (first_side rules outer m) × Step rules (fill (bound m) (left_of rules outer)) (second_side rules outer inner p m)
 
--- the critical pair lemma: where the sides of each overlap can be joined, so can what any two steps lead to from one term
-abbrev pub OverlapsSuffice : Type 0
-OverlapsSuffice = (sig : Sig) (rules : List Rule) → RulesOf sig rules → OverlapsJoin rules → (t u v : Term) → Step rules t u → Step rules t v → Joinable (Step rules) u v
+-- the critical pair lemma: where the sides of each overlap can be joined, so can what any two steps lead to from one term, and the reverse
+abbrev pub CriticalPairs : Type 0
+CriticalPairs = (sig : Sig) (rules : List Rule) → RulesOf sig rules → (OverlapsJoin rules → PeaksJoin rules) × (PeaksJoin rules → OverlapsJoin rules)
+
+-- where steps from tickets end there is no endless list of tickets with a step from each to the next
+abbrev pub NoEndlessSteps : Type 0
+NoEndlessSteps = (sig : Sig) (rules : List Rule) → StepsEnd sig rules → (ts : ℕ → Term) → ((n : ℕ) → Ticket sig (ts n)) → ((n : ℕ) → Step rules (ts n) (ts (suc n))) → ⊥
 
 -- from every ticket the next steps end, after a number that rules and ticket alone fix
 abbrev pub NextStepsEnd : Type 0
@@ -77,7 +86,17 @@ ConversionsMeet = (sig : Sig) (rules : List Rule) → Convergent sig rules → (
 
 -- tickets that next steps lead to one and the same term are joined by a conversion
 abbrev pub EqualRunsConvert : Type 0
-EqualRunsConvert = (sig : Sig) (rules : List Rule) → RulesOf sig rules → (t u : Term) → Ticket sig t → Ticket sig u → (n m : ℕ) → run rules n t ≡ run rules m u → Converts sig rules t u
+EqualRunsConvert = (sig : Sig) (rules : List Rule) → RulesOf sig rules → (t u : Term) → Ticket sig t → Ticket sig u → (n k : ℕ) → run rules n t ≡ run rules k u → Converts sig rules t u
+
+-- a conversion joins two tickets exactly if they are one and the same term once their next steps have ended
+abbrev pub FormsDecide : Type 0
+FormsDecide =
+    (sig : Sig) (rules : List Rule) → Convergent sig rules → (t u : Term) → Ticket sig t → Ticket sig u → (n k : ℕ) → EndsAfter rules t n → EndsAfter rules u k
+    → (Converts sig rules t u → run rules n t ≡ run rules k u) × (run rules n t ≡ run rules k u → Converts sig rules t u)
+
+-- the positions of a term are listed in reading order
+abbrev pub PositionsAreListed : Type 0
+PositionsAreListed = (t : Term) → ListsPositions t (positions t)
 
 -- of rules that an order with these relations orients strictly, steps from tickets end
 abbrev pub StrictlyOrientedEnd : (Rule → Type 0) → Type 0
@@ -86,3 +105,7 @@ StrictlyOrientedEnd strict = (sig : Sig) → Declared sig → (rules : List Rule
 -- of rules that a set has, each step leads from a ticket to one that the relation holds to
 abbrev pub StepsDescend : Relation → (Rule → Type 0) → Type 0
 StepsDescend R set = (sig : Sig) → Declared sig → (rules : List Rule) → RulesOf sig rules → AllIn set rules → (t u : Term) → Ticket sig t → Step rules t u → R t u
+
+-- rules that an order orients strictly and whose overlaps meet, their variables standing as leaves, are convergent
+abbrev pub TestedConverge : (Rule → Type 0) → Type 0
+TestedConverge strict = (sig : Sig) → Declared sig → (rules : List Rule) → RulesOf sig rules → AllIn strict rules → OverlapsMeet rules → Convergent sig rules

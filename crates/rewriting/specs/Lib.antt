@@ -4,6 +4,7 @@ pub mod Inductive
 pub mod Reduction
 pub mod Bindings
 pub mod Next
+pub mod Positions
 pub mod Unifier
 pub mod Order
 pub mod Convergent

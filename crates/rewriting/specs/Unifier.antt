@@ -8,7 +8,24 @@ use Rattle.terms.specs.Rule.{Rule}
 use Rattle.rewriting.specs.Rules.{left_of, right_of}
 use Rattle.rewriting.specs.Bindings.{Bindings, bound, joined}
 
--- what makes two terms equal: a variable is bound to what stands on the other side, equal leaves bind nothing, and equal operators bind what their arguments do; else there is none
+-- the term that two terms without a common variable become: the other one where one is a variable, the same leaf where both are equal leaves, and the same operator over what the arguments become; else there is none
+abbrev mutual
+  pub common : Term → Term → Option Term
+  common (variable x) u = some u
+  common (instrument n) (variable y) = some (instrument n)
+  common (instrument n) (instrument k) = cond (n == k) (some (instrument n)) none
+  common (instrument n) (apply g us) = none
+  common (apply f ts) (variable y) = some (apply f ts)
+  common (apply f ts) (instrument k) = none
+  common (apply f ts) (apply g us) = cond (f == g) (elim (common_all ts us) [ none ↦ none | some vs ↦ some (apply f vs) ]) none
+
+  pub common_all : Terms → Terms → Option Terms
+  common_all nil nil = some nil
+  common_all nil (cons u us) = none
+  common_all (cons t ts) nil = none
+  common_all (cons t ts) (cons u us) = elim (common t u) [ none ↦ none | some v ↦ elim (common_all ts us) [ none ↦ none | some vs ↦ some (cons v vs) ] ]
+
+-- what makes them that term: a variable is bound to what stands on the other side, equal leaves bind nothing, and equal operators bind what their arguments do
 abbrev mutual
   pub unifier : Term → Term → Option Bindings
   unifier (variable x) u = some ((x, u) ∷ [])

@@ -1,5 +1,5 @@
 // Theorems about the definitions.
-ghost use Rattle.rewriting.specs.Laws.{StepsAreInductive, StepsFill, StepsKeepTickets, NextIsNextStep, OneNextStep, NoNextStep, RunsReduce, RenamedApart, UnifierUnifies, UnifierIsMostGeneral, OverlapsAreSteps, OverlapsSuffice, NextStepsEnd, ConversionsMeet, EqualRunsConvert};
+ghost use Rattle.rewriting.specs.Laws.{StepsAreInductive, StepsFill, StepsKeepTickets, NextIsNextStep, OneNextStep, NoNextStep, RunsReduce, RenamedApart, UnifierUnifies, UnifierIsMostGeneral, OverlapsAreSteps, CriticalPairs, NoEndlessSteps, NextStepsEnd, ConversionsMeet, EqualRunsConvert, FormsDecide, UnifierIsCommon, PositionsAreListed};
 
 // A step at a position is a step by induction on the term, and the reverse.
 #[tactic(auto, using(crate::proofs::Stepping::step_rewrites, crate::proofs::Stepping::rewrites_step))]
@@ -36,8 +36,9 @@ pub fn renaming_sets_apart()
     ensures { RenamedApart }
 {}
 
-// The unifier of two separate terms makes them equal, and is most general.
+// The unifier of two separate terms makes them the term that they become, and is most general; without one they become none.
 pub fn unifiers_are_most_general()
+    ensures common { UnifierIsCommon }
     ensures unifies { UnifierUnifies }
     ensures general { UnifierIsMostGeneral }
 {}
@@ -47,9 +48,14 @@ pub fn overlaps_are_steps()
     ensures { OverlapsAreSteps }
 {}
 
-// The critical pair lemma: where the sides of each overlap can be joined, so can what any two steps lead to from one term.
-pub fn overlaps_suffice()
-    ensures { OverlapsSuffice }
+// The critical pair lemma: where the sides of each overlap can be joined, so can what any two steps lead to from one term, and the reverse.
+pub fn overlaps_are_critical()
+    ensures { CriticalPairs }
+{}
+
+// Where steps from tickets end there is no endless list of tickets with a step from each to the next.
+pub fn no_steps_are_endless()
+    ensures { NoEndlessSteps }
 {}
 
 // From every ticket the next steps end, after a number that rules and ticket alone fix.
@@ -62,7 +68,13 @@ pub fn conversions_meet()
     ensures { ConversionsMeet }
 {}
 
-// Tickets that next steps lead to one and the same term are joined by a conversion.
-pub fn equal_runs_convert()
-    ensures { EqualRunsConvert }
+// A conversion joins two tickets exactly if they are one and the same term once their next steps have ended; and wherever next steps lead to the same one it does.
+pub fn normal_forms_decide()
+    ensures decide { FormsDecide }
+    ensures meet { EqualRunsConvert }
+{}
+
+// The positions of a term are listed in reading order.
+pub fn positions_are_listed()
+    ensures { PositionsAreListed }
 {}

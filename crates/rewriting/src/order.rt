@@ -3,7 +3,7 @@ ghost use Rattle.terms.specs.Rule.{Rule};
 ghost use Rattle.terms.specs.Signature.{Sig, Declared};
 ghost use Rattle.terms.specs.Term.{Term};
 ghost use Rattle.rewriting.specs.Order.{OrderLaws};
-ghost use Rattle.rewriting.specs.Laws.{StrictlyOrientedEnd, StepsDescend};
+ghost use Rattle.rewriting.specs.Laws.{StrictlyOrientedEnd, StepsDescend, TestedConverge};
 
 // An order: two relations of tickets, and the rules that it orients strictly and weakly. Its laws hold over every signature.
 pub trait Order {
@@ -27,4 +27,9 @@ pub fn strictly_oriented_steps_end<O: Order>(order: &O)
 // Of rules that an order orients weakly, each step leads from a ticket to one that it is at least.
 pub fn weakly_oriented_steps_descend<O: Order>(order: &O)
     ensures { StepsDescend (O.at_least order.now) (O.weak order.now) }
+{}
+
+// Rules that an order orients strictly and whose overlaps meet, their variables standing as leaves, are convergent.
+pub fn tested_rules_converge<O: Order>(order: &O)
+    ensures { TestedConverge (O.strict order.now) }
 {}
