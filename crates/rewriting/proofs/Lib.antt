@@ -13,3 +13,4 @@ pub mod Common
 pub mod Listing
 pub mod Converging
 pub mod Orders
+pub mod Props
