@@ -1,6 +1,7 @@
 -- Where next steps end, and where conversions lead.
 use Rattle.std.proofs.Common.{◌≡◌, ◌≢◌, refl, sym, ◌∙◌, ap, subst, List, ℕ, zero, suc, ◌+◌, ◌<◌, arith}
 use Rattle.std.proofs.Math.Option.{Option, none, some}
+use Rattle.std.proofs.Math.Logic.{∥∥₁_elim}
 use Rattle.std.proofs.Math.Decide.{dec_lt}
 use Rattle.terms.specs.Term.{Term}
 use Rattle.terms.specs.Signature.{Sig}
@@ -10,12 +11,13 @@ use Rattle.rewriting.specs.Rules.{RulesOf}
 use Rattle.rewriting.specs.Step.{Step}
 use Rattle.rewriting.specs.Reduction.{Reduces, done, more, Joinable, Ends, ends, alone}
 use Rattle.rewriting.specs.Next.{next, run, EndsAfter}
-use Rattle.rewriting.specs.Convergent.{OverlapsJoin, OverlapsMeet, Converts}
-use Rattle.rewriting.specs.Laws.{RunsReduce, CriticalPairs, NoEndlessSteps, NextStepsEnd, ConversionsMeet, EqualRunsConvert, FormsDecide}
+use Rattle.rewriting.specs.Convergent.{Convergent, OverlapsJoin, OverlapsMeet, Converts}
+use Rattle.rewriting.specs.Laws.{RunsAdd, RunsReduce, CriticalPairs, NoEndlessSteps, NextStepsEnd, ConversionsMeet, EqualRunsConvert, FormsDecide}
 use Rattle.rewriting.proofs.Filling.{none_some}
 use Rattle.rewriting.proofs.Reducing.{reduces_map, conversion_first, conversion_last, church_rosser, same_normal, no_endless, conversion_along, conversion_from}
 use Rattle.rewriting.proofs.Stepping.{step_rewrites, rewrites_step}
 use Rattle.rewriting.proofs.Tickets.{step_ticket}
+use Rattle.rewriting.proofs.Props.{rules_of_prop, counted_prop, term_set}
 use Rattle.rewriting.proofs.Peaks.{peak}
 use Rattle.rewriting.proofs.Overlapping.{overlaps_are_steps}
 use Rattle.rewriting.specs.Unifier.{first_side, second_side}
@@ -83,6 +85,9 @@ peaks_join over joins t u v a b =
     let (c, p, q) = peak over joins (step_rewrites a) (step_rewrites b) in
     (c, reduces_map (λ x. x) (λ x y r. rewrites_step r) p, reduces_map (λ x. x) (λ x y r. rewrites_step r) q)
 
+pub runs_add : RunsAdd
+runs_add rules n k t = run_then rules n k t
+
 pub runs_reduce : RunsReduce
 runs_reduce sig rules over n t = run_reduces over n t
 
@@ -93,7 +98,8 @@ pub no_endless_steps : NoEndlessSteps
 no_endless_steps sig rules ending ts tickets steps = no_endless (ending (ts 0) (tickets 0)) ts refl steps
 
 pub next_steps_end : NextStepsEnd
-next_steps_end sig rules over ending t h = let (n, a) = counted over (ending t h) in (n, a, λ k b. counted_once rules t n k a b)
+next_steps_end sig rules c t h =
+    ∥∥₁_elim c (counted_prop rules t) (λ c. let (n, a) = counted c.over (c.steps_end t h) in (n, a, λ k b. counted_once rules t n k a b))
 
 pub conversions_meet : ConversionsMeet
 conversions_meet sig rules c t u w =
@@ -124,10 +130,10 @@ equal_runs_convert sig rules over t u h k n m e =
     conversion_along keeps h (run_reduces over n t) (subst (λ z. Converts sig rules z u) (sym e) back)
 
 pub forms_decide : FormsDecide
-forms_decide sig rules c t u h k n m a b = (same, equal_runs_convert sig rules c.over t u h k n m)
+forms_decide sig rules c t u h k n m a b = (λ w. ∥∥₁_elim c (term_set (run rules n t) (run rules m u)) (λ c. same c w), equal_runs_convert sig rules (∥∥₁_elim c (rules_of_prop sig rules) (λ c. c.over)) t u h k n m)
   where
-    same : Converts sig rules t u → run rules n t ≡ run rules m u
-    same w =
+    same : Convergent sig rules → Converts sig rules t u → run rules n t ≡ run rules m u
+    same c w =
         same_normal (peaks_join c.over c.overlaps_join) (c.steps_end t h) (c.steps_end u k) (church_rosser (peaks_join c.over c.overlaps_join) c.steps_end w)
         (run_reduces c.over n t) (none_normal c.over (run rules n t) a.ended) (run_reduces c.over m u) (none_normal c.over (run rules m u) b.ended)
 

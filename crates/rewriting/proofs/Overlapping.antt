@@ -14,8 +14,8 @@ use Rattle.rewriting.specs.Bindings.{Bindings, bound}
 use Rattle.rewriting.specs.Unifier.{Separate, Overlap}
 use Rattle.rewriting.specs.Laws.{RenamedApart, UnifierUnifies, UnifierIsMostGeneral, OverlapsAreSteps}
 use Rattle.rewriting.proofs.Filling.{fill_fill, fill_ext, none_some, part_root, put_root, put_fill}
-use Rattle.rewriting.proofs.General.{unifier_general, bound_holds}
-use Rattle.rewriting.proofs.Sound.{unifier_sound}
+use Rattle.rewriting.proofs.UnifierGeneral.{unifier_general, bound_holds}
+use Rattle.rewriting.proofs.UnifierSound.{unifier_sound}
 use Rattle.rewriting.proofs.Tickets.{small}
 
 -- how often a variable stands in a renamed term: below 8 not at all, and else as often as eight lower

@@ -14,7 +14,7 @@ use Rattle.rewriting.specs.Unifier.{IsVariable, Overlap}
 use Rattle.rewriting.proofs.Filling.{fill_ext, fill_fill, fill_inj, updated, part_root, put_root, part_occurs, put_fill}
 use Rattle.rewriting.proofs.Reducing.{reduces_map, one_step, join_sym}
 use Rattle.rewriting.proofs.Stepping.{reduces_fill, under_apply, under_cons, reduces_substitutions, step_rewrites}
-use Rattle.rewriting.proofs.General.{unifier_general, bound_holds}
+use Rattle.rewriting.proofs.UnifierGeneral.{unifier_general, bound_holds}
 use Rattle.rewriting.proofs.Finding.{Found, in_substitution, at_position, find}
 use Rattle.rewriting.proofs.Tickets.{small}
 use Rattle.rewriting.specs.Convergent.{OverlapsJoin}

@@ -1,5 +1,5 @@
 -- What holds of steps, next steps, unifiers, orders and convergent rules.
-use Rattle.std.specs.Prelude.{◌≡◌, ℕ, suc, ◌≤◌, List}
+use Rattle.std.specs.Prelude.{◌≡◌, ℕ, suc, ◌+◌, ◌≤◌, List}
 use Rattle.std.proofs.Math.Option.{none, some}
 use Rattle.terms.specs.Term.{Term}
 use Rattle.terms.specs.Signature.{Sig, Declared}
@@ -42,6 +42,10 @@ OneNextStep = (sig : Sig) (rules : List Rule) → RulesOf sig rules → (t u v :
 abbrev pub NoNextStep : Type 0
 NoNextStep = (sig : Sig) (rules : List Rule) → RulesOf sig rules → (t : Term) → (next rules t ≡ none → Normal (Step rules) t) × (Normal (Step rules) t → next rules t ≡ none)
 
+-- so many next steps and then so many more are as many as both together
+abbrev pub RunsAdd : Type 0
+RunsAdd = (rules : List Rule) (n k : ℕ) (t : Term) → run rules k (run rules n t) ≡ run rules (n + k) t
+
 -- after so many next steps a term is one that it reduces to
 abbrev pub RunsReduce : Type 0
 RunsReduce = (sig : Sig) (rules : List Rule) → RulesOf sig rules → (n : ℕ) (t : Term) → Reduces (Step rules) t (run rules n t)
@@ -76,9 +80,9 @@ CriticalPairs = (sig : Sig) (rules : List Rule) → RulesOf sig rules → (Overl
 abbrev pub NoEndlessSteps : Type 0
 NoEndlessSteps = (sig : Sig) (rules : List Rule) → StepsEnd sig rules → (ts : ℕ → Term) → ((n : ℕ) → Ticket sig (ts n)) → ((n : ℕ) → Step rules (ts n) (ts (suc n))) → ⊥
 
--- from every ticket the next steps end, after a number that rules and ticket alone fix
+-- from every ticket the next steps end, after a number that rules and ticket alone fix; it suffices that the rules are known merely to be convergent
 abbrev pub NextStepsEnd : Type 0
-NextStepsEnd = (sig : Sig) (rules : List Rule) → RulesOf sig rules → StepsEnd sig rules → (t : Term) → Ticket sig t → (n : ℕ) × EndsAfter rules t n × ((k : ℕ) → EndsAfter rules t k → k ≡ n)
+NextStepsEnd = (sig : Sig) (rules : List Rule) → ∥ Convergent sig rules ∥₁ → (t : Term) → Ticket sig t → (n : ℕ) × EndsAfter rules t n × ((k : ℕ) → EndsAfter rules t k → k ≡ n)
 
 -- the two ends of a conversion have one and the same normal form
 abbrev pub ConversionsMeet : Type 0
@@ -88,10 +92,10 @@ ConversionsMeet = (sig : Sig) (rules : List Rule) → Convergent sig rules → (
 abbrev pub EqualRunsConvert : Type 0
 EqualRunsConvert = (sig : Sig) (rules : List Rule) → RulesOf sig rules → (t u : Term) → Ticket sig t → Ticket sig u → (n k : ℕ) → run rules n t ≡ run rules k u → Converts sig rules t u
 
--- a conversion joins two tickets exactly if they are one and the same term once their next steps have ended
+-- a conversion joins two tickets exactly if they are one and the same term once their next steps have ended; it suffices that the rules are known merely to be convergent
 abbrev pub FormsDecide : Type 0
 FormsDecide =
-    (sig : Sig) (rules : List Rule) → Convergent sig rules → (t u : Term) → Ticket sig t → Ticket sig u → (n k : ℕ) → EndsAfter rules t n → EndsAfter rules u k
+    (sig : Sig) (rules : List Rule) → ∥ Convergent sig rules ∥₁ → (t u : Term) → Ticket sig t → Ticket sig u → (n k : ℕ) → EndsAfter rules t n → EndsAfter rules u k
     → (Converts sig rules t u → run rules n t ≡ run rules k u) × (run rules n t ≡ run rules k u → Converts sig rules t u)
 
 -- the positions of a term are listed in reading order

@@ -16,19 +16,19 @@ Relation = Term → Term → Type 0
 abbrev pub Induction : Sig → Relation → Type 1
 Induction sig greater = (P : Term → Type 0) → ((t : Term) → Ticket sig t → ((u : Term) → Ticket sig u → greater t u → P u) → P t) → (t : Term) → Ticket sig t → P t
 
--- a ticket with one part is to the same ticket with another part there as the parts are to each other
+-- where the relation holds between a part of a ticket and another ticket, it holds between the first and the same with the other in place of the part
 abbrev pub Within : Sig → Relation → Type 0
 Within sig R = (t : Term) (p : Position) (a b : Term) → Ticket sig t → Ticket sig b → part_at t p ≡ some a → R a b → R t (put_at t p b)
 
--- the one relation, then the other, gives the third
+-- one relation and then a second one give a third
 abbrev pub Compose : Sig → Relation → Relation → Relation → Type 0
 Compose sig R S T = (s t u : Term) → Ticket sig s → Ticket sig t → Ticket sig u → R s t → S t u → T s u
 
--- of the rules of a set, every substitution by tickets leaves the left side so to the right side
+-- of a rule in the set, the relation holds between the left and the right side under every substitution by tickets
 abbrev pub Orients : Sig → Relation → (Rule → Type 0) → Type 0
 Orients sig R set = (r : Rule) → RuleOf sig r → set r → (σ : Substitution) → ((x : ℕ) → Ticket sig (σ x)) → R (fill σ r.left) (fill σ r.right)
 
--- the laws of an order: greater and at least, two relations of tickets, and the rules that it orients strictly and weakly
+-- the laws of an order: of greater and at least, two relations of tickets, and of the rules that it orients strictly and those that it orients weakly
 pub record OrderLaws (sig : Sig) (greater at_least : Relation) (strict weak : Rule → Type 0) : Type 1 where
   pub induction : Induction sig greater
   pub greater_within : Within sig greater

@@ -1,5 +1,5 @@
 // Theorems about the definitions.
-ghost use Rattle.rewriting.specs.Laws.{StepsAreInductive, StepsFill, StepsKeepTickets, NextIsNextStep, OneNextStep, NoNextStep, RunsReduce, RenamedApart, UnifierUnifies, UnifierIsMostGeneral, OverlapsAreSteps, CriticalPairs, NoEndlessSteps, NextStepsEnd, ConversionsMeet, EqualRunsConvert, FormsDecide, UnifierIsCommon, PositionsAreListed};
+ghost use Rattle.rewriting.specs.Laws.{StepsAreInductive, StepsFill, StepsKeepTickets, NextIsNextStep, OneNextStep, NoNextStep, RunsAdd, RunsReduce, RenamedApart, UnifierUnifies, UnifierIsMostGeneral, OverlapsAreSteps, CriticalPairs, NoEndlessSteps, NextStepsEnd, ConversionsMeet, EqualRunsConvert, FormsDecide, UnifierIsCommon, PositionsAreListed};
 
 // A step at a position is a step by induction on the term, and the reverse.
 #[tactic(auto, using(crate::proofs::Stepping::step_rewrites, crate::proofs::Stepping::rewrites_step))]
@@ -25,9 +25,10 @@ pub fn next_gives_the_next_step()
     ensures none { NoNextStep }
 {}
 
-// After so many next steps a term is one that it reduces to.
+// So many next steps and then so many more are as many as both together, and after them a term is one that it reduces to.
 pub fn runs_reduce()
-    ensures { RunsReduce }
+    ensures add { RunsAdd }
+    ensures reduce { RunsReduce }
 {}
 
 // A term over the signature, renamed, shares no variable with another.

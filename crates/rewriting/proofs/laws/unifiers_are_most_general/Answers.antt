@@ -1,4 +1,4 @@
-use Rattle.rewriting.proofs.Common.{unifier_is_common}
+use Rattle.rewriting.proofs.UnifierCommon.{unifier_is_common}
 use Rattle.rewriting.proofs.Overlapping.{unifier_unifies, unifier_most_general}
 use Rattle.rewriting.proofs.laws.unifiers_are_most_general.Goals as goal
 

@@ -8,7 +8,7 @@ use Rattle.rewriting.specs.Unifier.{unifier, unifier_all, common, common_all}
 use Rattle.rewriting.specs.Laws.{UnifierIsCommon}
 use Rattle.rewriting.proofs.Filling.{none_some, fill_ext, fill_all_ext, count_self}
 use Rattle.rewriting.proofs.Matching.{bound_right, joined_some, tested}
-use Rattle.rewriting.proofs.Sound.{one_binding, bound_first, unifier_binds, unifier_all_binds}
+use Rattle.rewriting.proofs.UnifierSound.{one_binding, bound_first, unifier_binds, unifier_all_binds}
 
 no_more : {A B : Type 0} (b : Bool) (x : A) (y : B) → cond b (some x) none ≡ none → cond b (some y) none ≡ none
 no_more true x y e = absurd (none_some (sym e))
