@@ -11,8 +11,8 @@ use Rattle.rewriting.specs.Rules.{RulesOf}
 use Rattle.rewriting.specs.Step.{Step}
 use Rattle.rewriting.specs.Reduction.{Reduces, done, more, Joinable, Ends, ends, alone}
 use Rattle.rewriting.specs.Next.{next, run, EndsAfter}
-use Rattle.rewriting.specs.Convergent.{Convergent, OverlapsJoin, OverlapsMeet, Converts}
-use Rattle.rewriting.specs.Laws.{RunsAdd, RunsReduce, CriticalPairs, NoEndlessSteps, NextStepsEnd, ConversionsMeet, EqualRunsConvert, FormsDecide}
+use Rattle.rewriting.specs.Convergent.{Convergent, OverlapsJoin, OverlapsAgree, Converts}
+use Rattle.rewriting.specs.Laws.{RunsAdd, RunsReduce, CriticalPairs, NoEndlessSteps, NextStepsEnd, ConversionsAgree, EqualRunsConvert, FormsDecide}
 use Rattle.rewriting.proofs.Filling.{none_some}
 use Rattle.rewriting.proofs.Reducing.{reduces_map, conversion_first, conversion_last, church_rosser, same_normal, no_endless, conversion_along, conversion_from}
 use Rattle.rewriting.proofs.Stepping.{step_rewrites, rewrites_step}
@@ -101,8 +101,8 @@ pub next_steps_end : NextStepsEnd
 next_steps_end sig rules c t h =
     ∥∥₁_elim c (counted_prop rules t) (λ c. let (n, a) = counted c.over (c.steps_end t h) in (n, a, λ k b. counted_once rules t n k a b))
 
-pub conversions_meet : ConversionsMeet
-conversions_meet sig rules c t u w =
+pub conversions_agree : ConversionsAgree
+conversions_agree sig rules c t u w =
     let peaks = peaks_join c.over c.overlaps_join in
     let t-ends = c.steps_end t (conversion_first w) in
     let u-ends = c.steps_end u (conversion_last w) in
@@ -137,9 +137,9 @@ forms_decide sig rules c t u h k n m a b = (λ w. ∥∥₁_elim c (term_set (ru
         same_normal (peaks_join c.over c.overlaps_join) (c.steps_end t h) (c.steps_end u k) (church_rosser (peaks_join c.over c.overlaps_join) c.steps_end w)
         (run_reduces c.over n t) (none_normal c.over (run rules n t) a.ended) (run_reduces c.over m u) (none_normal c.over (run rules m u) b.ended)
 
--- where runs meet, terms can be joined
-pub meeting_joins : {sig : Sig} {rules : List Rule} → RulesOf sig rules → OverlapsMeet rules → OverlapsJoin rules
-meeting_joins {sig} {rules} over meet outer inner p m o =
-    let (n, k, e) = meet outer inner p m o in
+-- where runs of two terms agree, the two can be joined
+pub agreeing_joins : {sig : Sig} {rules : List Rule} → RulesOf sig rules → OverlapsAgree rules → OverlapsJoin rules
+agreeing_joins {sig} {rules} over agree outer inner p m o =
+    let (n, k, e) = agree outer inner p m o in
     let b : Term = second_side rules outer inner p m in
     (run rules n (first_side rules outer m), run_reduces over n (first_side rules outer m), subst (Reduces (Step rules) b) (sym e) (run_reduces over k b))

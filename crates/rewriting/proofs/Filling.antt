@@ -78,7 +78,7 @@ updated_out s x v t h = fill_ext (updated s x v) s t (λ y k. go y k (x == y) re
 pub updated_all-out : (s : Substitution) (x : ℕ) (v : Term) (ts : Terms) → occurrences_in x ts ≡ 0 → fill_all (updated s x v) ts ≡ fill_all s ts
 updated_all-out s x v ts h = apply_inj (updated_out s x v (apply 0 ts) h)
 
--- ---- places
+-- ---- positions
 
 pub none_some : {A : Type 0} {a : A} → none ≡ some a → ⊥
 none_some e = let z : ◌≡◌ {A = ℕ} 0 1 = cc in omega arith

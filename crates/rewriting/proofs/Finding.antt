@@ -1,4 +1,4 @@
--- Where a step of a filled linear term takes place: in what fills one variable, or at a position of the term that is no variable.
+-- Where a step of a filled linear term is: in what fills one variable, or at a position of the term that is no variable.
 use Rattle.std.proofs.Common.{◌≡◌, refl, sym, ap, List, [], ◌∷◌, ℕ, suc, ◌+◌, ◌≤◌, arith}
 use Rattle.std.proofs.Math.Option.{some}
 use Rattle.terms.specs.Term.{Term, variable, instrument, apply, Terms, nil, cons}

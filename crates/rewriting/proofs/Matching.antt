@@ -46,7 +46,7 @@ tested f g o m e = go (f == g) refl e
     go true q e = (eqb-true f g q, e)
     go false q e = absurd (none_some e)
 
--- the letters that are bound are those of the left side
+-- the variables that are bound are those of the left side
 mutual
   pub matching_binds : (a t : Term) (m : Bindings) → matching a t ≡ some m → (x : ℕ) → binds x m ≡ occurrences x a
   matching_binds (variable y) t m e x = let q : m ≡ (y, t) ∷ [] = cc in subst (λ z. binds x z ≡ occurrences x (variable y)) (sym q) (omega arith)

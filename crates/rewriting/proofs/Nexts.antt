@@ -7,7 +7,7 @@ use Rattle.terms.specs.Signature.{Sig}
 use Rattle.terms.specs.Substitution.{fill}
 use Rattle.terms.specs.Position.{Position, part_at, part_in, put_at, put_in}
 use Rattle.terms.specs.Rule.{Rule, RuleOf}
-use Rattle.rewriting.specs.Rules.{rule_at, RulesOf, Matches, SomeMatches}
+use Rattle.rewriting.specs.Rules.{rule_at, RulesOf, Matches, SomeMatches, MatchesNowhere}
 use Rattle.rewriting.specs.Step.{Step, StepAt}
 use Rattle.rewriting.specs.Inductive.{Root}
 use Rattle.rewriting.specs.Reduction.{Normal}
@@ -202,6 +202,9 @@ compare (i ∷ p) (k ∷ q) = go (dec_lt i k) (dec_lt k i) (compare p q)
     go (no h) (no o) (inr (inl c)) = let e : i ≡ k = omega arith in inr (inl (λ j. e j ∷ c j))
     go (no h) (no o) (inr (inr c)) = inr (inr (inr (omega arith, c)))
 
+nowhere_normal : {rules : List Rule} {t : Term} → MatchesNowhere rules t → Normal (Step rules) t
+nowhere_normal h u a = h a.position (fill a.step.substitution (rule_at _ a.rule).left) a.step.before (a.rule, a.known, (a.step.substitution, refl))
+
 some_inj : {A : Type 0} {a b : A} → some a ≡ some b → a ≡ b
 some_inj e = cc
 
@@ -244,7 +247,7 @@ module _ {sig : Sig} {rules : List Rule} (over : RulesOf sig rules) where
       go (some v) e = ap some (one_next t v u (next_some over t v e) a)
 
   pub none_normal : (t : Term) → next rules t ≡ none → Normal (Step rules) t
-  none_normal t e u a = next_none rules t e a.position a.step.before (a.rule, a.known, (a.step.substitution, refl))
+  none_normal t e = nowhere_normal (λ p b q w. next_none rules t e p q w)
 
   pub normal_none : (t : Term) → Normal (Step rules) t → next rules t ≡ none
   normal_none t h = go (next rules t) refl
@@ -260,4 +263,4 @@ pub one_next_step : OneNextStep
 one_next_step sig rules over t u v = one_next over t u v
 
 pub no_next_step : NoNextStep
-no_next_step sig rules over t = (none_normal over t, normal_none over t)
+no_next_step sig rules over t = (λ e p b q w. next_none rules t e p q w, nowhere_normal, normal_none over t)

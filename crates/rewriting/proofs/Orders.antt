@@ -1,5 +1,5 @@
 -- What the laws of an order give where it orients every rule.
-use Rattle.std.proofs.Common.{◌≡◌, refl, sym, subst, List, Bool, true, false, cond, ℕ, ◌≤◌, arith, nat_le, leb-true, le-leb}
+use Rattle.std.proofs.Common.{◌≡◌, refl, sym, subst, List, Bool, true, false, cond, ℕ, suc, ◌≤◌, arith, nat_le, leb-true, le-leb}
 use Rattle.terms.specs.Term.{Term, instrument}
 use Rattle.terms.specs.Signature.{Sig, Declared}
 use Rattle.terms.specs.Ticket.{Ticket}
@@ -9,9 +9,9 @@ use Rattle.rewriting.specs.Rules.{rule_at, left_of, right_of, RulesOf}
 use Rattle.rewriting.specs.Step.{Step}
 use Rattle.rewriting.specs.Reduction.{Ends, ends}
 use Rattle.rewriting.specs.Order.{Relation, Within, Orients, OrderLaws, AllIn}
-use Rattle.rewriting.specs.Laws.{StrictlyOrientedEnd, StepsDescend, TestedConverge}
+use Rattle.rewriting.specs.Laws.{StrictlyOrientedEnd, StepsDescend, NoEndlessDescent, TestedConverge}
 use Rattle.rewriting.proofs.Filling.{fill_ext}
-use Rattle.rewriting.proofs.Converging.{meeting_joins}
+use Rattle.rewriting.proofs.Converging.{agreeing_joins}
 use Rattle.rewriting.proofs.Tickets.{variable_ticket, fill_ticket, part_ticket, step_ticket}
 
 -- the substitution, with an instrument for each variable that does not stand in the term
@@ -56,5 +56,12 @@ pub steps_at_least : (greater at_least : Relation) (strict weak : Rule → Type 
 steps_at_least greater at_least strict weak laws sig declared rules over all = let law = laws sig declared in descends sig at_least weak law.at_least_within law.weakly rules over all
 
 pub tested_converge : (greater at_least : Relation) (strict weak : Rule → Type 0) → ((sig : Sig) → Declared sig → OrderLaws sig greater at_least strict weak) → TestedConverge strict
-tested_converge greater at_least strict weak laws sig declared rules over all meet =
-    record { over = over; steps_end = strictly_oriented_end greater at_least strict weak laws sig declared rules over all; overlaps_join = meeting_joins over meet }
+tested_converge greater at_least strict weak laws sig declared rules over all agree =
+    record { over = over; steps_end = strictly_oriented_end greater at_least strict weak laws sig declared rules over all; overlaps_join = agreeing_joins over agree }
+
+pub no_endless_descent : (greater at_least : Relation) (strict weak : Rule → Type 0) → ((sig : Sig) → Declared sig → OrderLaws sig greater at_least strict weak) → NoEndlessDescent greater
+no_endless_descent greater at_least strict weak laws sig declared ts tickets falls =
+    (laws sig declared).induction Endless (λ t h below us e k d. below (us 1) (k 1) (subst (λ z. greater z (us 1)) e (d 0)) (λ n. us (suc n)) refl (λ n. k (suc n)) (λ n. d (suc n))) (ts 0) (tickets 0) ts refl tickets falls
+  where
+    Endless : Term → Type 0
+    Endless t = (us : ℕ → Term) → us 0 ≡ t → ((n : ℕ) → Ticket sig (us n)) → ((n : ℕ) → greater (us n) (us (suc n))) → ⊥

@@ -22,7 +22,7 @@ use Rattle.std.proofs.Common.{nat_lt, lt-ltb, le-ltb}
 use Rattle.std.proofs.Math.Decide.{ℕ_discrete}
 use Rattle.terms.specs.Signature.{Sig}
 
--- one substitution for the outer letters, below 8, and another for the shifted inner ones
+-- one substitution for the outer variables, below 8, and another for the renamed inner ones
 abbrev pub mix : Substitution → Substitution → Substitution
 mix s s' x = cond (nat_lt x 8) (s x) (s' ((x + 8) % 16))
 
@@ -30,10 +30,10 @@ pub mix_low : (s s' : Substitution) (t : Term) → ((x : ℕ) → 1 ≤ occurren
 mix_low s s' t h = fill_ext (mix s s') s t (λ x k. rw (lt-ltb x 8 (h x k)))
 
 pub mix_high : (s s' : Substitution) (t : Term) → ((x : ℕ) → 1 ≤ occurrences x t → x < 8) → fill (mix s s') (renamed t) ≡ fill s' t
-mix_high s s' t h = fill_fill (mix s s') (λ x. variable ((x + 8) % 16)) t ∙ fill_ext (λ x. mix s s' ((x + 8) % 16)) s' t at_letter
+mix_high s s' t h = fill_fill (mix s s') (λ x. variable ((x + 8) % 16)) t ∙ fill_ext (λ x. mix s s' ((x + 8) % 16)) s' t at_variable
   where
-    at_letter : (x : ℕ) → 1 ≤ occurrences x t → mix s s' ((x + 8) % 16) ≡ s' x
-    at_letter x k =
+    at_variable : (x : ℕ) → 1 ≤ occurrences x t → mix s s' ((x + 8) % 16) ≡ s' x
+    at_variable x k =
         let low : x < 8 = h x k in
         let high : 8 ≤ (x + 8) % 16 = omega arith in
         let back : ((x + 8) % 16 + 8) % 16 ≡ x = omega arith in
@@ -50,7 +50,7 @@ pub join_cast : {rules : List Rule} {t t' u u' : Term} → t ≡ t' → u ≡ u'
 join_cast {rules} {t} {t'} {u} {u'} p q j = subst (λ z. Joinable (Rewrites rules) z u') p (subst (λ z. Joinable (Rewrites rules) t z) q j)
 
 module _ {sig : Sig} {rules : List Rule} (good : RulesOf sig rules) (joins : OverlapsJoin rules) where
-  -- the inner step takes place in what fill_all a variable
+  -- the inner step is in what fills a variable
   variable_peak : (i : ℕ) → i < length rules → (s : Substitution) (x : ℕ) (v : Term) → Rewrites rules (s x) v → Joinable (Rewrites rules) (fill s (right_of rules i)) (fill (updated s x v) (left_of rules i))
   variable_peak i known s x v r =
       (fill (updated s x v) (right_of rules i), reduces_substitutions (λ y. go y (x == y) refl) (right_of rules i), one_step (at_root (record { rule = i; known = known; substitution = updated s x v; before = refl; after = refl })))
@@ -59,10 +59,10 @@ module _ {sig : Sig} {rules : List Rule} (good : RulesOf sig rules) (joins : Ove
       go y true e = one_step (subst (λ z. Rewrites rules (s z) v) (eqb-true x y e) r)
       go y false e = done
 
-  -- the inner step takes place at an overlap
+  -- the inner step is at an overlap
   overlap_peak : (i j : ℕ) → i < length rules → j < length rules → (s s' : Substitution) (p : Position) (b : Term) → part_at (left_of rules i) p ≡ some b → (IsVariable b → ⊥) → (i ≡ j → p ≡ [] → ⊥) → fill s b ≡ fill s' (left_of rules j)
       → Joinable (Rewrites rules) (fill s (right_of rules i)) (put_at (fill s (left_of rules i)) p (fill s' (right_of rules j)))
-  overlap_peak i j ki kj s s' p b stands nol apart e =
+  overlap_peak i j ki kj s s' p b stands other apart e =
       let σ : Substitution = mix s s' in
       let gi : RuleOf sig (rule_at rules i) = good i ki in
       let gj : RuleOf sig (rule_at rules j) = good j kj in
@@ -75,7 +75,7 @@ module _ {sig : Sig} {rules : List Rule} (good : RulesOf sig rules) (joins : Ove
       let through : (t : Term) → fill σ (fill (bound m) t) ≡ fill σ t = λ t. fill_fill σ (bound m) t ∙ fill_ext (λ x. fill σ (bound m x)) σ t (λ x k. bound_holds σ m h x) in
       let new : Term = put_at (left_of rules i) p (renamed (right_of rules j)) in
       let q : fill σ new ≡ put_at (fill s (left_of rules i)) p (fill s' (right_of rules j)) = put_fill σ (left_of rules i) p b (renamed (right_of rules j)) stands ∙ (λ k. put_at (σl k) p (σr' k)) in
-      let o : Overlap rules i j p m = record { outer_known = ki; inner_known = kj; part = b; stands = stands; no_variable = nol; not_itself = apart; unified = met } in
+      let o : Overlap rules i j p m = record { outer_known = ki; inner_known = kj; part = b; stands = stands; no_variable = other; not_itself = apart; unified = met } in
       join_cast (through (right_of rules i) ∙ σr) (through new ∙ q) (join_fill σ (join_step (joins i j p m o)))
 
   -- a rule with itself at the at_root
@@ -86,14 +86,14 @@ module _ {sig : Sig} {rules : List Rule} (good : RulesOf sig rules) (joins : Ove
 
   position_peak : (i j : ℕ) → i < length rules → j < length rules → (s s' : Substitution) (p : Position) (b : Term) → part_at (left_of rules i) p ≡ some b → (IsVariable b → ⊥) → fill s b ≡ fill s' (left_of rules j)
       → Joinable (Rewrites rules) (fill s (right_of rules i)) (put_at (fill s (left_of rules i)) p (fill s' (right_of rules j)))
-  position_peak i j ki kj s s' (k ∷ p) b stands nol e = overlap_peak i j ki kj s s' (k ∷ p) b stands nol (λ q z. no_cons z) e
+  position_peak i j ki kj s s' (k ∷ p) b stands other e = overlap_peak i j ki kj s s' (k ∷ p) b stands other (λ q z. no_cons z) e
     where
       no_cons : {k : ℕ} {p : Position} → k ∷ p ≡ [] → ⊥
       no_cons z = let w : ◌≡◌ {A = ℕ} 0 1 = cc in omega arith
-  position_peak i j ki kj s s' [] b stands nol e = go (ℕ_discrete i j)
+  position_peak i j ki kj s s' [] b stands other e = go (ℕ_discrete i j)
     where
       go : Dec (i ≡ j) → Joinable (Rewrites rules) (fill s (right_of rules i)) (put_at (fill s (left_of rules i)) [] (fill s' (right_of rules j)))
-      go (no n) = overlap_peak i j ki kj s s' [] b stands nol (λ q z. n q) e
+      go (no n) = overlap_peak i j ki kj s s' [] b stands other (λ q z. n q) e
       go (yes q) =
           let w : some b ≡ some (left_of rules i) = sym stands ∙ part_root (left_of rules i) in
           let b-is : b ≡ left_of rules i = cc in
@@ -111,8 +111,8 @@ module _ {sig : Sig} {rules : List Rule} (good : RulesOf sig rules) (joins : Ove
 
       go : Found rules s (left_of rules i) v → Joinable (Rewrites rules) (fill s (right_of rules i)) v
       go (in_substitution x w h r e) = join_cast refl (sym e) (variable_peak i a.known s x w r)
-      go (at_position p b c stands nol r e) =
-          join_cast refl (ap (put_at (fill s (left_of rules i)) p) (sym r.after) ∙ sym e) (position_peak i r.rule a.known r.known s r.substitution p b stands nol r.before)
+      go (at_position p b c stands other r e) =
+          join_cast refl (ap (put_at (fill s (left_of rules i)) p) (sym r.after) ∙ sym e) (position_peak i r.rule a.known r.known s r.substitution p b stands other r.before)
 
   mutual
     pub peak : {t u v : Term} → Rewrites rules t u → Rewrites rules t v → Joinable (Rewrites rules) u v

@@ -31,7 +31,7 @@ pub bound_first : (x : ℕ) (m n : Bindings) → binds x n ≡ 0 → bound (m ++
 bound_first x [] n h = bound_unbound x n h
 bound_first x (b ∷ m) n h = ap (cond (x == b.0) b.1) (bound_first x m n h)
 
--- only letters of the two are bound
+-- only variables of the two are bound
 mutual
   pub unifier_binds : (a b : Term) (m : Bindings) → unifier a b ≡ some m → (x : ℕ) → binds x m ≤ occurrences x a + occurrences x b
   unifier_binds (variable y) b m e x = let q : m ≡ (y, b) ∷ [] = cc in subst (λ z. binds x z ≤ occurrences x (variable y) + occurrences x b) (sym q) (omega arith)

@@ -25,8 +25,8 @@ abbrev pub PeaksJoin : List Rule → Type 0
 PeaksJoin rules = (t u v : Term) → Step rules t u → Step rules t v → Joinable (Step rules) u v
 
 -- the sides of each overlap are one and the same term after some next steps of each
-abbrev pub OverlapsMeet : List Rule → Type 0
-OverlapsMeet rules = (outer inner : ℕ) (p : Position) (m : Bindings) → Overlap rules outer inner p m → (n : ℕ) × (k : ℕ) × (run rules n (first_side rules outer m) ≡ run rules k (second_side rules outer inner p m))
+abbrev pub OverlapsAgree : List Rule → Type 0
+OverlapsAgree rules = (outer inner : ℕ) (p : Position) (m : Bindings) → Overlap rules outer inner p m → (n : ℕ) × (k : ℕ) × (run rules n (first_side rules outer m) ≡ run rules k (second_side rules outer inner p m))
 
 pub record Convergent (sig : Sig) (rules : List Rule) : Type 0 where
   pub over : RulesOf sig rules

@@ -7,7 +7,7 @@ use Rattle.terms.specs.Ticket.{TermOf, Ticket}
 use Rattle.terms.specs.Position.{Position}
 use Rattle.terms.specs.Substitution.{Substitution, fill, occurrences, renamed}
 use Rattle.terms.specs.Rule.{Rule}
-use Rattle.rewriting.specs.Rules.{left_of, RulesOf}
+use Rattle.rewriting.specs.Rules.{left_of, RulesOf, MatchesNowhere}
 use Rattle.rewriting.specs.Step.{Step}
 use Rattle.rewriting.specs.Inductive.{Rewrites}
 use Rattle.rewriting.specs.Reduction.{Reduces, Normal}
@@ -16,7 +16,7 @@ use Rattle.rewriting.specs.Next.{NextStep, next, run, EndsAfter}
 use Rattle.rewriting.specs.Positions.{ListsPositions, positions}
 use Rattle.rewriting.specs.Unifier.{unifier, common, Separate, Overlap, first_side, second_side}
 use Rattle.rewriting.specs.Order.{Relation, AllIn}
-use Rattle.rewriting.specs.Convergent.{Convergent, StepsEnd, OverlapsJoin, PeaksJoin, OverlapsMeet, Converts, OneNormalForm}
+use Rattle.rewriting.specs.Convergent.{Convergent, StepsEnd, OverlapsJoin, PeaksJoin, OverlapsAgree, Converts, OneNormalForm}
 
 -- a step at a position is a step by induction on the term, and the reverse
 abbrev pub StepsAreInductive : Type 0
@@ -38,9 +38,11 @@ NextIsNextStep = (sig : Sig) (rules : List Rule) → RulesOf sig rules → (t u 
 abbrev pub OneNextStep : Type 0
 OneNextStep = (sig : Sig) (rules : List Rule) → RulesOf sig rules → (t u v : Term) → NextStep rules t u → NextStep rules t v → u ≡ v
 
--- there is none exactly if no rule matches anywhere
+-- there is none exactly if no rule matches anywhere, and that is exactly if no step leads on
 abbrev pub NoNextStep : Type 0
-NoNextStep = (sig : Sig) (rules : List Rule) → RulesOf sig rules → (t : Term) → (next rules t ≡ none → Normal (Step rules) t) × (Normal (Step rules) t → next rules t ≡ none)
+NoNextStep =
+    (sig : Sig) (rules : List Rule) → RulesOf sig rules → (t : Term)
+    → (next rules t ≡ none → MatchesNowhere rules t) × (MatchesNowhere rules t → Normal (Step rules) t) × (Normal (Step rules) t → next rules t ≡ none)
 
 -- so many next steps and then so many more are as many as both together
 abbrev pub RunsAdd : Type 0
@@ -85,8 +87,8 @@ abbrev pub NextStepsEnd : Type 0
 NextStepsEnd = (sig : Sig) (rules : List Rule) → ∥ Convergent sig rules ∥₁ → (t : Term) → Ticket sig t → (n : ℕ) × EndsAfter rules t n × ((k : ℕ) → EndsAfter rules t k → k ≡ n)
 
 -- the two ends of a conversion have one and the same normal form
-abbrev pub ConversionsMeet : Type 0
-ConversionsMeet = (sig : Sig) (rules : List Rule) → Convergent sig rules → (t u : Term) → Converts sig rules t u → OneNormalForm rules t u
+abbrev pub ConversionsAgree : Type 0
+ConversionsAgree = (sig : Sig) (rules : List Rule) → Convergent sig rules → (t u : Term) → Converts sig rules t u → OneNormalForm rules t u
 
 -- tickets that next steps lead to one and the same term are joined by a conversion
 abbrev pub EqualRunsConvert : Type 0
@@ -102,6 +104,10 @@ FormsDecide =
 abbrev pub PositionsAreListed : Type 0
 PositionsAreListed = (t : Term) → ListsPositions t (positions t)
 
+-- there is no endless list of tickets with the relation between each and the next
+abbrev pub NoEndlessDescent : Relation → Type 0
+NoEndlessDescent greater = (sig : Sig) → Declared sig → (ts : ℕ → Term) → ((n : ℕ) → Ticket sig (ts n)) → ((n : ℕ) → greater (ts n) (ts (suc n))) → ⊥
+
 -- of rules that an order with these relations orients strictly, steps from tickets end
 abbrev pub StrictlyOrientedEnd : (Rule → Type 0) → Type 0
 StrictlyOrientedEnd strict = (sig : Sig) → Declared sig → (rules : List Rule) → RulesOf sig rules → AllIn strict rules → StepsEnd sig rules
@@ -110,6 +116,6 @@ StrictlyOrientedEnd strict = (sig : Sig) → Declared sig → (rules : List Rule
 abbrev pub StepsDescend : Relation → (Rule → Type 0) → Type 0
 StepsDescend R set = (sig : Sig) → Declared sig → (rules : List Rule) → RulesOf sig rules → AllIn set rules → (t u : Term) → Ticket sig t → Step rules t u → R t u
 
--- rules that an order orients strictly and whose overlaps meet, their variables standing as leaves, are convergent
+-- rules that an order orients strictly and whose overlaps agree, their variables standing as leaves, are convergent
 abbrev pub TestedConverge : (Rule → Type 0) → Type 0
-TestedConverge strict = (sig : Sig) → Declared sig → (rules : List Rule) → RulesOf sig rules → AllIn strict rules → OverlapsMeet rules → Convergent sig rules
+TestedConverge strict = (sig : Sig) → Declared sig → (rules : List Rule) → RulesOf sig rules → AllIn strict rules → OverlapsAgree rules → Convergent sig rules

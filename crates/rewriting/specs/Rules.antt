@@ -1,8 +1,10 @@
 -- Lists of rules, numbered from 0, and which of them match a term.
 use Rattle.std.specs.Prelude.{◌≡◌, ℕ, ◌<◌, List, length, slice_index_or}
+use Rattle.std.proofs.Math.Option.{some}
 use Rattle.terms.specs.Term.{Term, instrument}
 use Rattle.terms.specs.Signature.{Sig}
 use Rattle.terms.specs.Substitution.{Substitution, fill}
+use Rattle.terms.specs.Position.{Position, part_at}
 use Rattle.terms.specs.Rule.{Rule, RuleOf}
 
 -- the rule of a number; past the last, one of two instruments
@@ -26,3 +28,7 @@ Matches r t = (σ : Substitution) × (t ≡ fill σ r.left)
 -- one of the rules does
 abbrev pub SomeMatches : List Rule → Term → Type 0
 SomeMatches rules t = (k : ℕ) × (k < length rules) × Matches (rule_at rules k) t
+
+-- no rule matches anywhere in a term
+abbrev pub MatchesNowhere : List Rule → Term → Type 0
+MatchesNowhere rules t = (p : Position) (b : Term) → part_at t p ≡ some b → SomeMatches rules b → ⊥

@@ -1,5 +1,5 @@
 // Theorems about the definitions.
-ghost use Rattle.rewriting.specs.Laws.{StepsAreInductive, StepsFill, StepsKeepTickets, NextIsNextStep, OneNextStep, NoNextStep, RunsAdd, RunsReduce, RenamedApart, UnifierUnifies, UnifierIsMostGeneral, OverlapsAreSteps, CriticalPairs, NoEndlessSteps, NextStepsEnd, ConversionsMeet, EqualRunsConvert, FormsDecide, UnifierIsCommon, PositionsAreListed};
+ghost use Rattle.rewriting.specs.Laws.{StepsAreInductive, StepsFill, StepsKeepTickets, NextIsNextStep, OneNextStep, NoNextStep, RunsAdd, RunsReduce, RenamedApart, UnifierUnifies, UnifierIsMostGeneral, OverlapsAreSteps, CriticalPairs, NoEndlessSteps, NextStepsEnd, ConversionsAgree, EqualRunsConvert, FormsDecide, UnifierIsCommon, PositionsAreListed};
 
 // A step at a position is a step by induction on the term, and the reverse.
 #[tactic(auto, using(crate::proofs::Stepping::step_rewrites, crate::proofs::Stepping::rewrites_step))]
@@ -65,8 +65,8 @@ pub fn next_steps_end()
 {}
 
 // The two ends of a conversion have one and the same normal form, which next steps lead to.
-pub fn conversions_meet()
-    ensures { ConversionsMeet }
+pub fn conversions_agree()
+    ensures { ConversionsAgree }
 {}
 
 // A conversion joins two tickets exactly if they are one and the same term once their next steps have ended; and wherever next steps lead to the same one it does.
