@@ -1,0 +1,9 @@
+pub mod Progress
+pub mod Headings
+pub mod Cells
+pub mod Lines
+pub mod Leaves
+pub mod Nested
+pub mod Rows
+pub mod Storing
+pub mod Filling
