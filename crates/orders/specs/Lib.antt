@@ -1,0 +1,4 @@
+pub mod Linear
+pub mod Lexicographic
+pub mod Order
+pub mod PairLaws
