@@ -3,7 +3,8 @@ use Rattle.std.specs.Prelude.{ℕ, suc, ◌+◌, ◌*◌, ◌<◌, ◌≤◌, co
 use Rattle.terms.specs.Term.{Term, variable, instrument, apply, Terms, nil, cons}
 use Rattle.terms.specs.Rule.{Rule}
 use Rattle.sheet_reading.specs.Values.{Value}
-use Rattle.weighing.specs.Weighing.{times}
+use Rattle.weighing.specs.declared.Weighing.{Weighing}
+use Rattle.weighing.specs.Weighing.{times, value_at}
 
 -- a base for each operator, and a factor for each of its arguments
 pub record Linear : Type 0 where
@@ -25,6 +26,14 @@ abbrev mutual
 -- the weight of a ticket, which has no variables
 abbrev pub weight : Linear → Term → ℕ
 weight m = value m (λ x. 0)
+
+-- of two tickets: the first weighs more
+abbrev pub Heavier : Linear → Term → Term → Type 0
+Heavier m t u = weight m u < weight m t
+
+-- or as much
+abbrev pub AsHeavy : Linear → Term → Term → Type 0
+AsHeavy m t u = weight m u ≤ weight m t
 
 -- the constant of a term: its value where each variable is 0
 abbrev pub constant : Linear → Term → ℕ
@@ -58,3 +67,7 @@ base_in (Some n) = n
 
 abbrev pub linear_from : (ℕ → ℕ → Value) → Linear
 linear_from values = record { base = λ f. base_in (values 0 f); factor = λ f k. times (values (suc k) f) }
+
+-- the interpretation that a weighing gives
+abbrev pub linear_of : Weighing → Linear
+linear_of w = linear_from (value_at w)

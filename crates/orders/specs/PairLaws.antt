@@ -1,8 +1,7 @@
 -- A proof and no definition: one order and then another keeps the laws.
-use Rattle.std.specs.Prelude.{ℕ}
 use Rattle.std.proofs.Common.{inl, inr}
 use Rattle.terms.specs.Term.{Term}
-use Rattle.terms.specs.Signature.{Sig, Declared}
+use Rattle.terms.specs.Signature.{Sig}
 use Rattle.terms.specs.Ticket.{Ticket}
 use Rattle.terms.specs.Rule.{Rule}
 use Rattle.rewriting.specs.Order.{Relation, Compose, Induction, OrderLaws}
@@ -17,9 +16,9 @@ module _ {sig : Sig} {greater₁ at_least₁ greater₂ at_least₂ : Relation} 
 
       outer : (s : Term) → Ticket sig s → ((t : Term) → Ticket sig t → greater₁ s t → Outer t) → Outer s
       outer s j below = n.induction (λ t. ((u : Term) → Ticket sig u → greater₁ t u → greater₁ s u) → P t) (λ t k inner within. step t k (λ u l. elim [
-          | inl a ↦ below u l (within u l a) u l (λ v i b. b)
-          | inr p ↦ inner u l p.1 (λ v i b. within v i (m.at_least_greater t u v k l i p.0 b))
-        ]))
+        | inl a ↦ below u l (within u l a) u l (λ v i b. b)
+        | inr p ↦ inner u l p.1 (λ v i b. within v i (m.at_least_greater t u v k l i p.0 b))
+      ]))
 
   -- composition of any third relations that compose
   then_compose : {R S T : Relation} → Compose sig R S T → Compose sig (Then greater₁ at_least₁ R) (Then greater₁ at_least₁ S) (Then greater₁ at_least₁ T)

@@ -1,9 +1,14 @@
+ghost use Rattle.std.specs.Prelude.{◌≡◌};
+ghost use Rattle.orders.specs.Interpretation.{meaning};
 ghost use Rattle.orders.specs.Lexicographic.{Then, ThenOf};
+ghost use Rattle.orders.specs.Linear.{linear_of};
 ghost use Rattle.orders.specs.PairLaws.{then_laws};
 
+use crate::linear::Interpretation;
 use crate::order::Order;
 use rewriting::order::ReductionOrder;
 use sheet::Sheet;
+use weighing::Weighing;
 
 // One order, then another where the first orients only weakly.
 #[derive(Drop)]
@@ -12,7 +17,7 @@ pub struct Lexicographic<A, B> {
     pub second: B,
 }
 
-impl<A: Order, B: Order> ReductionOrder for Lexicographic<A, B> {
+impl<A: ReductionOrder, B: ReductionOrder> ReductionOrder for Lexicographic<A, B> {
     ghost greater = { λ o. Then (A.greater o.first) (A.at_least o.first) (B.greater o.second) };
 
     ghost at_least = { λ o. Then (A.greater o.first) (A.at_least o.first) (B.at_least o.second) };
@@ -33,5 +38,19 @@ impl<A: Order, B: Order> Order for Lexicographic<A, B> {
     fn is_weak(&self, sheet: &Sheet, rule: usize) -> bool {
         self.first.is_strict(sheet, rule)
             || self.first.is_weak(sheet, rule) && self.second.is_weak(sheet, rule)
+    }
+}
+
+// The order by two weighings, the first before the second.
+pub type DefaultOrder<'w> = Lexicographic<Interpretation<'w>, Interpretation<'w>>;
+
+// The default order of a sheet with these weighings.
+pub fn default_order<'w>(first: &'w Weighing, second: &'w Weighing) -> DefaultOrder<'w>
+    ensures first { meaning result.first ≡ linear_of first.now }
+    ensures second { meaning result.second ≡ linear_of second.now }
+{
+    Lexicographic {
+        first: Interpretation::of(first),
+        second: Interpretation::of(second),
     }
 }

@@ -1,0 +1,4 @@
+pub mod Sums
+pub mod Bounds
+pub mod Sides
+pub mod Interpreting
