@@ -26,12 +26,18 @@ TOP = os.path.dirname(os.path.dirname(os.path.abspath(__file__)))
 # The table
 
 
-HOUSE = "nil neg both/0 1 2/1 1 3/- 2 2/- - 1/- - -/"
-NAMES = "a b c d e f g h i j k l m n o p q r s t u v w x y z a1 b1 c1 d1 e1 f1"
-SHORT_TEXTS = {"&": HOUSE, "@": HOUSE + "rules/", "%": NAMES}
+def table():
+    """The texts of the table, by the names of their constants."""
+    with open(os.path.join(TOP, "crates/sheet_table/src/cases.rt"), encoding="utf-8") as source:
+        found = re.findall(r'pub const (\w+): &str =\s+"(.*?)";', source.read(), re.DOTALL)
+    return {name: text.replace("\\t", "\t").replace("\\r", "\r").replace("\\u{0}", "\0") for name, text in found}
+
+
+TABLE = table()
+SHORT_TEXTS = {"&": TABLE["HOUSE"], "@": TABLE["HOUSE"] + "rules/", "%": TABLE["NAMES"]}
 SHORT_OPERATORS = {
-    "@": "nil 0 1:--- 0:111, neg 1 1:2-- 0:111, both 2 3:21- 0:111",
-    "%": ", ".join(name + " 0 0:--- 0:111" for name in NAMES.split()),
+    "@": TABLE["HOUSE_OPERATORS"],
+    "%": ", ".join(name + " 0 0:--- 0:111" for name in TABLE["NAMES"].split()),
 }
 
 
@@ -69,20 +75,21 @@ def read_anew(text):
 
 
 def table_cases():
-    with open(os.path.join(TOP, "crates/sheet_table/src/cases.rt"), encoding="utf-8") as source:
-        table = re.search(r'CASES: &str = "(.*?)";', source.read(), re.DOTALL)[1]
-    table = table.replace("\\t", "\t").replace("\\r", "\r").replace("\\u{0}", "\0")
-    for line in table.split("\n"):
+    """Each text and what is expected: the cases, and the fronts of the long sheet."""
+    for line in TABLE["CASES"].split("\n"):
         if "|" in line:
-            yield line.split("|")
+            text, expected = line.split("|")
+            yield unfold(text, SHORT_TEXTS), unfold(expected, SHORT_OPERATORS)
+    for n, expected in enumerate(TABLE["FRONTS"].split("\n")):
+        yield TABLE["LONG"][:n], expected
 
 
 def compare_table():
     differences = count = 0
     for text, expected in table_cases():
         count += 1
-        found = read_anew(unfold(text, SHORT_TEXTS).replace("/", "\n").encode())
-        if found != unfold(expected, SHORT_OPERATORS):
+        found = read_anew(text.replace("/", "\n").encode())
+        if found != expected:
             differences += 1
             print(f"{text}\n    table:  {expected}\n    oracle: {found}")
     print(f"{count} cases, {differences} differences")
