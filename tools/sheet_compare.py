@@ -11,9 +11,12 @@ import argparse
 import collections
 import concurrent.futures
 import os
+import random
 import re
 import subprocess
 import sys
+import threading
+import time
 
 # leaves nothing behind in tools/
 sys.dont_write_bytecode = True
@@ -99,10 +102,43 @@ def compare_table():
 # The program
 
 
+def run_whole(program, data):
+    ran = subprocess.run([program], input=data, capture_output=True, timeout=60)
+    return ran.returncode, ran.stdout
+
+
+def run_slowly(program, data, seed):
+    """Gives the program its input in pieces, so that its reads come back short."""
+    pieces = random.Random(seed)
+    with subprocess.Popen([program], stdin=subprocess.PIPE, stdout=subprocess.PIPE) as ran:
+        threading.Thread(target=give_pieces, args=(ran.stdin, data, pieces)).start()
+        found = ran.stdout.read()
+    return ran.returncode, found
+
+
+def give_pieces(pipe, data, pieces):
+    at = 0
+    try:
+        while at < len(data):
+            size = pieces.choice([1, 2, 3, 10, 100, 1000, 5000])
+            pipe.write(data[at : at + size])
+            pipe.flush()
+            at += size
+            if at < 20_000:
+                time.sleep(0.0005)
+    except BrokenPipeError:
+        # the program refused the sheet and ended
+        pass
+    try:
+        pipe.close()
+    except BrokenPipeError:
+        pass
+
+
 def run_one(program, seed):
     data = sheet_cases.case(seed)
-    ran = subprocess.run([program], input=data, capture_output=True, timeout=60)
-    return data, ran, sheet_oracle.printed(data)
+    status, found = run_slowly(program, data, seed) if seed % 50 == 0 else run_whole(program, data)
+    return data, status, found, sheet_oracle.printed(data)
 
 
 def first_difference(found, expected):
@@ -118,10 +154,10 @@ def compare_program(program, cases, seed, keep):
     kinds = collections.Counter()
     with concurrent.futures.ThreadPoolExecutor(2) as pool:
         seeds = range(seed, seed + cases)
-        for number, (data, ran, expected) in zip(seeds, pool.map(lambda n: run_one(program, n), seeds)):
+        for number, (data, status, found, expected) in zip(seeds, pool.map(lambda n: run_one(program, n), seeds)):
             for line in expected.decode("latin-1").splitlines():
                 kinds[" ".join(line.split()[:3]) if line.startswith("refused") else line.split()[0]] += 1
-            if ran.returncode == 0 and ran.stdout == expected:
+            if status == 0 and found == expected:
                 continue
             differences += 1
             if keep:
@@ -129,7 +165,7 @@ def compare_program(program, cases, seed, keep):
                 with open(os.path.join(keep, f"case-{number}"), "wb") as file:
                     file.write(data)
             if differences <= 50:
-                print(f"case {number}: status {ran.returncode}, line, program, oracle: {first_difference(ran.stdout, expected)}")
+                print(f"case {number}: status {status}; line, program, oracle: {first_difference(found, expected)}")
     for kind, count in sorted(kinds.items()):
         print(f"{count:8} {kind}")
     print(f"{cases} cases, {differences} differences")
