@@ -4,14 +4,14 @@ use Rattle.std.specs.List.{AllByRecursion}
 use Rattle.std.specs.Result.{IsErrAnd}
 use Rattle.terms.specs.declared.symbol.Symbol.TheVariants.{Operator}
 use Rattle.terms.specs.declared.node.Node.{Node}
-use Rattle.terms.specs.Nodes.{laid, laid_row}
-use Rattle.terms.specs.Layout.{in_use, LaysOut}
+use Rattle.terms.specs.Nodes.{laid_row}
+use Rattle.terms.specs.Layout.{in_use}
 use Rattle.terms.specs.Substitution.{occurrences, occurrences_in}
 use Rattle.signature.specs.Declaring.{sig_of}
 use Rattle.lexer.specs.declared.token.Name.{Name as Named}
 use Rattle.lexer.specs.declared.token.Token.{Token}
 use Rattle.lexer.specs.declared.token.Token.TheVariants.{Name, Number, Instrument, Variable, Mark, Stray}
-use Rattle.terms.specs.Term.{Term, apply, nil, cons}
+use Rattle.terms.specs.Term.{apply, nil, cons}
 use Rattle.lexer.specs.declared.token.Lexeme.{Lexeme}
 use Rattle.lexer.specs.declared.token.Lexer.{Lexer}
 use Rattle.lexer.specs.Lexing.{meaning, what_is_left, ReadToken}
@@ -22,7 +22,7 @@ use Rattle.reading.specs.declared.fault.TextFault.TheVariants.{Unexpected, Wrong
 use Rattle.reading.specs.declared.fault.SheetFault.{SheetFault}
 use Rattle.reading.specs.declared.fault.SheetFault.TheVariants.{Text}
 use Rattle.reading.specs.Tokens.{Tok, a_name, a_number, an_instrument, a_variable, a_mark, a_stray, tokens}
-use Rattle.reading.specs.Reading.{Context, top, within, State, wants, opens, has, named, on_opens, fault_of, chain}
+use Rattle.reading.specs.Reading.{Context, within, State, wants, opens, has, named, on_opens, fault_of, chain}
 use Rattle.reading.proofs.Tokens.{Lexed as WellCut, tokens_lexed}
 use Rattle.sheet_reading.specs.Sides.{Hand as Side, on_left, on_right, in_text, occurrences_before}
 use Rattle.sheet_reading.specs.Reading.{is_mark, Stand, rule_end}
@@ -177,15 +177,3 @@ module _ {before r : SideReader} {room below : Room} (i : Around) {at : At} {ari
           spare_left = omega (arith, w.keeps.spare_left, h.falls.0);
         };
       }
-
--- which variables stand on a whole left side
-pub whole_marked : (marks : List Bool) (d : Side) (t : Term) → Marked marks d (λ x. occurrences x t + occurrences_before x top) → Marked marks d (λ x. occurrences x t)
-whole_marked marks d t = marked_as marks d (λ x. occurrences x t + 0) (λ x. occurrences x t) (λ x. omega arith)
-
--- the nodes of a whole side
-empty : (ns : List Node) → length ns ≡ 0 → ns ≡ []
-empty [] e = refl
-empty (n ∷ ns) e = absurd (omega arith)
-
-pub whole_laid : {b : List ℕ} {before r : SideReader} {room : Room} (i : Around) {whole : Whole} {l : Lexer} → length (in_use before.nodes) ≡ 0 → (w : ReadsTerm b before room i whole r l) → LaysOut r.nodes w.term
-whole_laid {before} i e w = w.nodes ∙ ap (λ ns. ns ++ laid (length ns) None w.term) (empty (in_use before.nodes) e)
