@@ -304,7 +304,9 @@ def stretched(r, text):
     filler = r.choice([b"?", b"\n", b"7", b"a", b"#1=#1\n", text or b"x"])
     at = r.choice([0, len(text), len(text)])
     more = max(length - len(text), 0)
-    return text[:at] + (filler * (more // len(filler) + 1))[:more] + text[at:]
+    text = text[:at] + (filler * (more // len(filler) + 1))[:more] + text[at:]
+    # mostly with a line end behind it, so that a line `.` can follow
+    return text[:-1] + b"\n" if r.random() < 0.7 else text
 
 
 def damage_variables(r, text):
@@ -385,7 +387,9 @@ def ticket(r, maker):
 
 
 def tickets(r, maker):
-    lines = [ticket(r, maker) for _ in range(r.choice([0, 1, 2, 3, 6]))]
+    # sometimes more than the program reads at a time
+    count = r.choice([0, 1, 2, 3, 6]) if r.random() < 0.98 else r.choice([300, 3000])
+    lines = [ticket(r, maker) for _ in range(count)]
     text = b"".join(line + b"\n" for line in lines)
     return text[:-1] if r.random() < 0.2 else text
 
@@ -401,7 +405,7 @@ def case(seed):
     text = b"".join(line.encode() + b"\n" for line in lines + rules)
     if r.random() < 0.5:
         text = damaged(r, text)
-    if r.random() < 0.01:
+    if r.random() < 0.03:
         text = stretched(r, text)
     end = r.random()
     if end < 0.05:

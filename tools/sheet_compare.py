@@ -11,9 +11,12 @@ import argparse
 import collections
 import concurrent.futures
 import os
+import random
 import re
 import subprocess
 import sys
+import threading
+import time
 
 # leaves nothing behind in tools/
 sys.dont_write_bytecode = True
@@ -26,12 +29,18 @@ TOP = os.path.dirname(os.path.dirname(os.path.abspath(__file__)))
 # The table
 
 
-HOUSE = "nil neg both/0 1 2/1 1 3/- 2 2/- - 1/- - -/"
-NAMES = "a b c d e f g h i j k l m n o p q r s t u v w x y z a1 b1 c1 d1 e1 f1"
-SHORT_TEXTS = {"&": HOUSE, "@": HOUSE + "rules/", "%": NAMES}
+def table():
+    """The texts of the table, by the names of their constants."""
+    with open(os.path.join(TOP, "crates/sheet_table/src/cases.rt"), encoding="utf-8") as source:
+        found = re.findall(r'pub const (\w+): &str =\s+"(.*?)";', source.read(), re.DOTALL)
+    return {name: text.replace("\\t", "\t").replace("\\r", "\r").replace("\\u{0}", "\0") for name, text in found}
+
+
+TABLE = table()
+SHORT_TEXTS = {"&": TABLE["HOUSE"], "@": TABLE["HOUSE"] + "rules/", "%": TABLE["NAMES"]}
 SHORT_OPERATORS = {
-    "@": "nil 0 1:--- 0:111, neg 1 1:2-- 0:111, both 2 3:21- 0:111",
-    "%": ", ".join(name + " 0 0:--- 0:111" for name in NAMES.split()),
+    "@": TABLE["HOUSE_OPERATORS"],
+    "%": ", ".join(name + " 0 0:--- 0:111" for name in TABLE["NAMES"].split()),
 }
 
 
@@ -69,20 +78,21 @@ def read_anew(text):
 
 
 def table_cases():
-    with open(os.path.join(TOP, "crates/sheet_table/src/cases.rt"), encoding="utf-8") as source:
-        table = re.search(r'CASES: &str = "(.*?)";', source.read(), re.DOTALL)[1]
-    table = table.replace("\\t", "\t").replace("\\r", "\r").replace("\\u{0}", "\0")
-    for line in table.split("\n"):
+    """Each text and what is expected: the cases, and the fronts of the long sheet."""
+    for line in TABLE["CASES"].split("\n"):
         if "|" in line:
-            yield line.split("|")
+            text, expected = line.split("|")
+            yield unfold(text, SHORT_TEXTS), unfold(expected, SHORT_OPERATORS)
+    for n, expected in enumerate(TABLE["FRONTS"].split("\n")):
+        yield TABLE["LONG"][:n], expected
 
 
 def compare_table():
     differences = count = 0
     for text, expected in table_cases():
         count += 1
-        found = read_anew(unfold(text, SHORT_TEXTS).replace("/", "\n").encode())
-        if found != unfold(expected, SHORT_OPERATORS):
+        found = read_anew(text.replace("/", "\n").encode())
+        if found != expected:
             differences += 1
             print(f"{text}\n    table:  {expected}\n    oracle: {found}")
     print(f"{count} cases, {differences} differences")
@@ -92,10 +102,43 @@ def compare_table():
 # The program
 
 
+def run_whole(program, data):
+    ran = subprocess.run([program], input=data, capture_output=True, timeout=60)
+    return ran.returncode, ran.stdout
+
+
+def run_slowly(program, data, seed):
+    """Gives the program its input in pieces, so that its reads come back short."""
+    pieces = random.Random(seed)
+    with subprocess.Popen([program], stdin=subprocess.PIPE, stdout=subprocess.PIPE) as ran:
+        threading.Thread(target=give_pieces, args=(ran.stdin, data, pieces)).start()
+        found = ran.stdout.read()
+    return ran.returncode, found
+
+
+def give_pieces(pipe, data, pieces):
+    at = 0
+    try:
+        while at < len(data):
+            size = pieces.choice([1, 2, 3, 10, 100, 1000, 5000])
+            pipe.write(data[at : at + size])
+            pipe.flush()
+            at += size
+            if at < 20_000:
+                time.sleep(0.0005)
+    except BrokenPipeError:
+        # the program refused the sheet and ended
+        pass
+    try:
+        pipe.close()
+    except BrokenPipeError:
+        pass
+
+
 def run_one(program, seed):
     data = sheet_cases.case(seed)
-    ran = subprocess.run([program], input=data, capture_output=True, timeout=60)
-    return data, ran, sheet_oracle.printed(data)
+    status, found = run_slowly(program, data, seed) if seed % 50 == 0 else run_whole(program, data)
+    return data, status, found, sheet_oracle.printed(data)
 
 
 def first_difference(found, expected):
@@ -111,10 +154,10 @@ def compare_program(program, cases, seed, keep):
     kinds = collections.Counter()
     with concurrent.futures.ThreadPoolExecutor(2) as pool:
         seeds = range(seed, seed + cases)
-        for number, (data, ran, expected) in zip(seeds, pool.map(lambda n: run_one(program, n), seeds)):
+        for number, (data, status, found, expected) in zip(seeds, pool.map(lambda n: run_one(program, n), seeds)):
             for line in expected.decode("latin-1").splitlines():
                 kinds[" ".join(line.split()[:3]) if line.startswith("refused") else line.split()[0]] += 1
-            if ran.returncode == 0 and ran.stdout == expected:
+            if status == 0 and found == expected:
                 continue
             differences += 1
             if keep:
@@ -122,7 +165,7 @@ def compare_program(program, cases, seed, keep):
                 with open(os.path.join(keep, f"case-{number}"), "wb") as file:
                     file.write(data)
             if differences <= 50:
-                print(f"case {number}: status {ran.returncode}, line, program, oracle: {first_difference(ran.stdout, expected)}")
+                print(f"case {number}: status {status}; line, program, oracle: {first_difference(found, expected)}")
     for kind, count in sorted(kinds.items()):
         print(f"{count:8} {kind}")
     print(f"{cases} cases, {differences} differences")

@@ -1,10 +1,9 @@
 -- The nodes that the parser holds, from one state to the next.
-use Rattle.std.proofs.Common.{◌≡◌, ℕ, suc, ◌+◌, ◌≤◌, List, [], ◌∷◌, ◌++◌, length, set, Some, None, sym, refl, ap, ◌∙◌, append_assoc, append-nil, arith, length-append}
-use Rattle.std.proofs.lemmas.List.{get_or_at, set_at}
+use Rattle.std.proofs.Common.{◌≡◌, ℕ, suc, ◌+◌, ◌≤◌, List, ◌∷◌, ◌++◌, length, Some, None, sym, refl, ap, ◌∙◌, append_assoc, append-nil, arith, length-append}
 use Rattle.terms.specs.declared.node.Node.{Node}
-use Rattle.terms.specs.Term.{Term, variable, instrument, apply, Terms, nil, cons, symbols, symbols_in}
-use Rattle.terms.specs.Nodes.{vacant, start, laid, laid_row, with_next}
-use Rattle.terms.proofs.Laying.{length-laid}
+use Rattle.terms.specs.Term.{Term, apply, Terms, nil, cons, symbols, symbols_in}
+use Rattle.terms.specs.Nodes.{start, laid, laid_row, with_next}
+use Rattle.terms.proofs.Laying.{length-laid, relaid}
 use Rattle.reading.specs.Reading.{Context, top, within, and_then}
 use Rattle.reader.specs.Parsing.{operator_node, linked, stack_nodes, stack_frames}
 
@@ -45,17 +44,6 @@ closed_nodes t f ns ts =
     append_assoc ns _ (laid j None t)
     ∙ ap (λ l. ns ++ (operator_node f i ∷ l)) (sym (laid_last (suc i) ts t j (deeper f i ns ts refl)))
     ∙ ap (λ l. ns ++ (record { symbol = (operator_node f i).symbol; first = l; next = None } ∷ laid_row (suc i) (and_then ts t))) (sym (start_then (suc i) ts t))
-
--- linking the root of what is laid out last
-rooted : (pre : List Node) (j q : ℕ) (n : Node) (rest : List Node) → length pre ≡ j → with_next (pre ++ n ∷ rest) j q ≡ pre ++ (record { symbol = n.symbol; first = n.first; next = Some q } ∷ rest)
-rooted pre j q n rest e =
-    ap (λ (x : Node). set (pre ++ n ∷ rest) j (record { symbol = x.symbol; first = x.first; next = Some q })) (get_or_at pre n rest vacant j e)
-    ∙ set_at pre n rest _ j e
-
-relaid : (pre : List Node) (j q : ℕ) (t : Term) → length pre ≡ j → with_next (pre ++ laid j None t) j q ≡ pre ++ laid j (Some q) t
-relaid pre j q (variable x) e = rooted pre j q _ [] e
-relaid pre j q (instrument n) e = rooted pre j q _ [] e
-relaid pre j q (apply f ts) e = rooted pre j q _ (laid_row (suc j) ts) e
 
 pub continued_nodes : (t : Term) (f : ℕ) (ns : List Node) (ts : Terms) (q : ℕ) → q ≡ length ((ns ++ (operator_node f (length ns) ∷ linked (suc (length ns)) ts)) ++ laid (length (ns ++ (operator_node f (length ns) ∷ linked (suc (length ns)) ts))) None t)
     → with_next ((ns ++ (operator_node f (length ns) ∷ linked (suc (length ns)) ts)) ++ laid (length (ns ++ (operator_node f (length ns) ∷ linked (suc (length ns)) ts))) None t) (length (ns ++ (operator_node f (length ns) ∷ linked (suc (length ns)) ts))) q

@@ -1,5 +1,4 @@
 pub mod Terms
 pub mod Sides
 pub mod Rules
-pub mod Admissible
 pub mod Sheet

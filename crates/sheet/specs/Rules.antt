@@ -1,8 +1,8 @@
 -- The rules that stored ones stand for.
-use Rattle.std.specs.Prelude.{ℕ, ◌<◌, List, map, length, slice_index_or}
+use Rattle.std.specs.Prelude.{ℕ, ◌<◌, List, map, length}
 use Rattle.terms.specs.Rule.{Rule, RuleOf}
 use Rattle.terms.specs.Signature.{Sig}
-use Rattle.terms.specs.Term.{instrument}
+use Rattle.rewriting.specs.Rules.{rule_at}
 use Rattle.sheet.specs.Sides.{side_of}
 use Rattle.sheet.specs.declared.side.Side.{Side}
 use Rattle.sheet.specs.declared.rule.Rule.{Rule as Stored}
@@ -16,10 +16,6 @@ rule_of r = rule_between r.left r.right
 
 abbrev pub rules_from : List Stored → List Rule
 rules_from rs = map rule_of rs
-
--- the rule of a number; past the last, one of two instruments
-abbrev pub rule_at : List Rule → ℕ → Rule
-rule_at rules i = slice_index_or rules i (record { left = instrument 1; right = instrument 1 })
 
 -- each rule is one over the signature
 abbrev pub Lawful : Sig → List Rule → Type 0

@@ -1,7 +1,7 @@
 ghost use Rattle.std.specs.Prelude.{◌≡◌, ◌<◌, true, false, [], ◌∷◌, ◌++◌, length};
 ghost use Rattle.terms.specs.Rule.{RuleOf};
 ghost use Rattle.signature.specs.Declaring.{sig_of};
-ghost use Rattle.sheet.specs.Admissible.{Admissible};
+ghost use Rattle.rewriting.specs.Convergent.{Convergent};
 ghost use Rattle.sheet.specs.Rules.{rule_between};
 ghost use Rattle.sheet.specs.Sheet.{operators_of, rules_of, is_admitted, Bare};
 
@@ -52,9 +52,9 @@ impl Sheet {
         self.rules.push(Rule::new(left, right)).unwrap();
     }
 
-    // Marks an admissible sheet as admitted.
+    // Marks a sheet of convergent rules as admitted.
     pub fn mark_admitted(&mut self)
-        requires { Admissible (operators_of self.old) (rules_of self.old) }
+        requires { Convergent (operators_of self.old) (rules_of self.old) }
         ensures operators { operators_of self.new ≡ operators_of self.old }
         ensures rules { rules_of self.new ≡ rules_of self.old }
         ensures admitted { is_admitted self.new ≡ true }

@@ -4,7 +4,7 @@
 ghost use Rattle.std.specs.Prelude.{◌≡◌, true};
 ghost use Rattle.fixed_vec.specs.FixedVec.{items};
 ghost use Rattle.signature.specs.Declaring.{sig_of};
-ghost use Rattle.sheet.specs.Admissible.{Admissible};
+ghost use Rattle.rewriting.specs.Convergent.{Convergent};
 ghost use Rattle.sheet.specs.Rules.{rules_from, Lawful};
 
 use fixed_vec::FixedVec;
@@ -16,7 +16,7 @@ pub mod rule;
 pub mod side;
 pub mod viewing;
 
-// Up to 32 rules over the operators of a signature. Only an admissible sheet is marked as admitted.
+// Up to 32 rules over the operators of a signature. Only a sheet of convergent rules is marked as admitted.
 #[derive(Drop)]
 pub struct Sheet {
     signature: Signature,
@@ -24,5 +24,5 @@ pub struct Sheet {
     // True only after `mark_admitted`, which requires the fact.
     admitted: bool,
     ghost lawful: { Lawful (sig_of signature) (rules_from (items rules)) },
-    ghost judged: { (admitted ≡ true → ∥ Admissible (sig_of signature) (rules_from (items rules)) ∥₁) },
+    ghost judged: { (admitted ≡ true → ∥ Convergent (sig_of signature) (rules_from (items rules)) ∥₁) },
 }

@@ -1,7 +1,8 @@
 ghost use Rattle.std.specs.Prelude.{◌≡◌, ◌<◌, ◌≤◌, true, length, MatchOption};
 ghost use Rattle.signature.specs.Declaring.{sig_of};
-ghost use Rattle.sheet.specs.Admissible.{Admissible};
-ghost use Rattle.sheet.specs.Rules.{rule_of, rule_at, Lawful};
+ghost use Rattle.rewriting.specs.Convergent.{Convergent};
+ghost use Rattle.rewriting.specs.Rules.{rule_at};
+ghost use Rattle.sheet.specs.Rules.{rule_of, Lawful};
 ghost use Rattle.sheet.specs.Sheet.{operators_of, rules_of, is_admitted};
 
 use crate::Sheet;
@@ -35,7 +36,7 @@ impl Sheet {
     // Whether it is admitted.
     pub fn is_admitted(&self) -> bool
         ensures value { result ≡ is_admitted self.now }
-        ensures admissible { result ≡ true → ∥ Admissible (operators_of self.now) (rules_of self.now) ∥₁ }
+        ensures convergent { result ≡ true → ∥ Convergent (operators_of self.now) (rules_of self.now) ∥₁ }
     {
         self.admitted
     }

@@ -1,13 +1,11 @@
 -- The heading of a sheet, read by its machine.
-use Rattle.std.proofs.Common.{◌≡◌, ℕ, ◌+◌, ◌≤◌, List, [], ◌∷◌, ◌++◌, length, length-append, None, Ok, Err, Result, sym, refl, ap, ◌∙◌, subst, arith}
+use Rattle.std.proofs.Common.{◌≡◌, ℕ, ◌+◌, ◌≤◌, List, [], ◌∷◌, ◌++◌, length, length-append, Ok, Err, Result, sym, refl, ap, ◌∙◌, subst, arith}
 use Rattle.lexer.specs.declared.token.Lexeme.{Lexeme}
 use Rattle.lexer.specs.declared.token.Lexer.{Lexer}
-use Rattle.lexer.specs.Lexing.{meaning, what_is_left, ReadToken, Lexed}
+use Rattle.lexer.specs.Lexing.{meaning, what_is_left, ReadToken}
 use Rattle.terms.specs.Signature.{Sig}
 use Rattle.reading.specs.declared.heading.Stage.TheVariants.{WantsName, HasName, WantsCount, HasCount, Done}
-use Rattle.reading.specs.declared.fault.TextFault.TheVariants.{Unexpected}
 use Rattle.reading.specs.declared.fault.SheetFault.{SheetFault}
-use Rattle.reading.specs.declared.fault.SheetFault.TheVariants.{Text}
 use Rattle.reading.specs.Tokens.{Tok, tokens, token_bytes, whole, origin, past}
 use Rattle.reading.specs.declared.token.At.{At}
 use Rattle.reading.specs.Reading.{chain, run_with}
@@ -20,8 +18,8 @@ use Rattle.signature.specs.declared.Signature.{Signature}
 use Rattle.signature.specs.Declaring.{sig_of}
 use Rattle.reader.specs.Machine.{IsWithin, Stepped, Finished}
 use Rattle.sheet_reading.specs.Reading.{Stand, wants_value, headed, sheet_step}
-use Rattle.sheet_reader.specs.Progress.{start, Reached, Meets, Goes, outcome}
-use Rattle.sheet_reader.proofs.Progress.{met, taken, refused, ended}
+use Rattle.sheet_reader.specs.Progress.{start, Reached, Meets, Goes, EndsEarly, outcome}
+use Rattle.sheet_reader.proofs.Progress.{met, taken, refused}
 
 -- the bytes of some tokens and of others
 long_whole : (ks ls : List Tok) → length (whole (ks ++ ls)) ≡ length (whole ks) + length (whole ls)
@@ -34,6 +32,14 @@ far s at [] v e = omega (arith, ap (λ (x : Stand × At). x.1.place) (same_ok e)
 far s at (k ∷ ks) v e =
     let (u, q, r) = chain_ok (sheet_step limits s at k) (λ w. run_with (sheet_step limits) (λ u a. Ok (u, a)) w (past at k) ks) v e in
     omega (arith, far u (past at k) ks v r, length-append (token_bytes k) (whole ks))
+
+-- the text must not end within it
+pub heading_early : (h : Head) → (h.1 ≡ Done → ⊥) → EndsEarly (headed h)
+heading_early (sig, WantsName) more at = refl
+heading_early (sig, HasName) more at = refl
+heading_early (sig, WantsCount f) more at = refl
+heading_early (sig, HasCount f) more at = refl
+heading_early (sig, Done) more at = absurd (more refl)
 
 module _ (b : List ℕ) where
   -- a place that is reached, and what is left behind it
@@ -80,14 +86,6 @@ module _ (b : List ℕ) where
       let (v, e, q) = next (is_within 32768 (headed h) l x m few z t) h refl in
       subst (λ k. Reached b (headed k) m) q (head_taken h v x m more (met b (headed h) l x m z t) e)
   stepped h g x l m (Err f) few more z t next = head_refused h f x m more (met b (headed h) l x m z t) (next (is_within 32768 (headed h) l x m few z t) h refl)
-
-  -- the text ends within it
-  pub cut_short : (h : Head) (f : SheetFault) (l m : Lexer) → (h.1 ≡ Done → ⊥) → Reached b (headed h) l → Lexed l None m → f ≡ Text (Unexpected m.at) → outcome b ≡ Err f
-  cut_short (sig, WantsName) f l m more r e q = ended b _ l m f (λ at. refl) r e q
-  cut_short (sig, HasName) f l m more r e q = ended b _ l m f (λ at. refl) r e q
-  cut_short (sig, WantsCount n) f l m more r e q = ended b _ l m f (λ at. refl) r e q
-  cut_short (sig, HasCount n) f l m more r e q = ended b _ l m f (λ at. refl) r e q
-  cut_short (sig, Done) f l m more r e q = absurd (more refl)
 
   -- the heading is read
   pub finished : (h : Head) (l : Lexer) (r : Result Signature SheetFault) → h.1 ≡ Done → Reached b (headed h) l

@@ -9,11 +9,11 @@ use Rattle.lexer.specs.declared.token.Lexer.{Lexer}
 use Rattle.lexer.specs.Lexing.{meaning, what_is_left, ReadToken}
 use Rattle.reading.specs.declared.token.At.{At}
 use Rattle.reading.specs.declared.token.Mark.{Mark}
-use Rattle.reading.specs.declared.token.Mark.TheVariants.{Opening, Closing, Comma, Equals, Dash, Blank, LineEnd}
+use Rattle.reading.specs.declared.token.Mark.TheVariants.{Dash, Blank, LineEnd}
 use Rattle.reading.specs.declared.fault.TextFault.TheVariants.{Unexpected}
 use Rattle.reading.specs.declared.fault.SheetFault.{SheetFault}
 use Rattle.reading.specs.declared.fault.SheetFault.TheVariants.{Text}
-use Rattle.reading.specs.Tokens.{Tok, a_name, a_number, an_instrument, a_variable, a_mark, a_stray, tokens}
+use Rattle.reading.specs.Tokens.{Tok, tokens}
 use Rattle.reading.specs.Reading.{chain, fault_of, top, wants}
 use Rattle.reading.specs.Heading.{not_here}
 use Rattle.sheet_reading.specs.Values.{Value, Grid, range_in, range_of}
@@ -25,13 +25,8 @@ use Rattle.weighing.specs.Weighing.{Missing, Puts}
 use Rattle.sheet_reader.specs.Progress.{Reached, Meets, Goes, Wants, misplaced, outcome}
 use Rattle.sheet_reader.specs.Weighings.{NoWord, ValueComes, in_line}
 use Rattle.sheet_reader.specs.Values.{Awaits, InWeighing}
-use Rattle.sheet_reader.proofs.Progress.{met, taken, refused, good}
+use Rattle.sheet_reader.proofs.Progress.{each_token, met, taken, refused, good, goes_map}
 use Rattle.sheet_reader.proofs.Cells.{weighs_put, weighs_opened, weighs_missing}
-
--- what holds behind a success
-pub goes_on : {A : Type 0} (b : List ℕ) (r : Result A SheetFault) (P Q : A → Type 0) → Goes b r P → ((x : A) → P x → Q x) → Goes b r Q
-goes_on b (Ok x) P Q h f = f x h
-goes_on b (Err g) P Q h f = h
 
 -- a test is false where its second part is false behind the first
 both_not : (p q : Bool) → (p ≡ true → q ≡ false) → p && q ≡ false
@@ -40,18 +35,8 @@ both_not false q h = refl
 
 -- what may not come where nothing but marks may, not even a needless parenthesis
 misplaced_here : (tok : Tok) (at : At) → fault_of tok at (Unexpected at) ≡ misplaced None tok at
-misplaced_here (a_name s) at = refl
-misplaced_here (a_number s) at = refl
-misplaced_here (an_instrument s) at = refl
-misplaced_here (a_variable x) at = refl
-misplaced_here (a_mark Opening) at = refl
-misplaced_here (a_mark Closing) at = refl
-misplaced_here (a_mark Comma) at = refl
-misplaced_here (a_mark Equals) at = refl
-misplaced_here (a_mark Dash) at = refl
-misplaced_here (a_mark Blank) at = refl
-misplaced_here (a_mark LineEnd) at = refl
-misplaced_here (a_stray b) at = refl
+misplaced_here tok at =
+    each_token (λ k. fault_of k at (Unexpected at) ≡ misplaced None k at) (λ s. refl) (λ s. refl) (λ s. refl) (λ x. refl) (λ b. refl) refl refl refl refl refl refl refl tok
 
 -- one mark may come, and else nothing
 wants_mark : (s u : Stand) (m : Mark) → ((at : At) (tok : Tok) → sheet_step limits s at tok ≡ cond (is_mark m tok) (Ok u) (not_here tok at)) → Wants s None m u
@@ -137,7 +122,7 @@ first_comes (v ∷ vs) n h r = absurd (omega arith)
 pub other_comes : (b : List ℕ) (sig : Sig) (grid : Grid) (vs : List Value) (l m : Lexer) (r : Result (Unit {0}) SheetFault) → 0 < length vs → Reached b (in_line sig grid vs) l
     → (Reached b (has_value sig grid vs) l → Goes b r (λ _. Reached b (wants_value sig grid vs) m)) → Goes b r (λ _. Reached b (wants_value sig grid vs) m × ValueComes grid vs m)
 other_comes b sig grid [] l m r n at h = absurd (omega arith)
-other_comes b sig grid (v ∷ vs) l m r n at h = goes_on b r (λ _. Reached b (wants_value sig grid (v ∷ vs)) m) _ (h at) (λ x q. (q, λ e. absurd (false≢true e)))
+other_comes b sig grid (v ∷ vs) l m r n at h = goes_map b r (λ _. Reached b (wants_value sig grid (v ∷ vs)) m) _ (λ x q. (q, λ e. absurd (false≢true e))) (h at)
 
 -- a blank behind a value that is not the last, and the end of the line behind the last
 module _ (sig : Sig) (grid : Grid) (vs : List Value) where

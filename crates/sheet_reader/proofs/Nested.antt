@@ -1,28 +1,28 @@
 -- Operators with their arguments.
-use Rattle.std.proofs.Common.{◌≡◌, ℕ, suc, ◌+◌, ◌<◌, true, false, Bool, nat_lt, List, [], ◌∷◌, ◌++◌, length, Some, None, Ok, Err, Result, sym, refl, ap, ◌∙◌, subst, append_assoc, arith, length-append}
+use Rattle.std.proofs.Common.{◌≡◌, ℕ, suc, ◌+◌, ◌<◌, true, false, Bool, cond, nat_lt, List, [], ◌∷◌, ◌++◌, length, Some, None, Ok, Err, Result, refl, ap, ◌∙◌, subst, append_assoc, arith, length-append}
 use Rattle.std.specs.List.{AllByRecursion}
-use Rattle.std.specs.Result.{IsErrAnd}
+use Rattle.std.proofs.lemmas.Bool.{cond-true, cond-false}
 use Rattle.terms.specs.declared.symbol.Symbol.TheVariants.{Operator}
 use Rattle.terms.specs.declared.node.Node.{Node}
-use Rattle.terms.specs.Nodes.{laid, laid_row}
-use Rattle.terms.specs.Layout.{in_use, LaysOut}
+use Rattle.terms.specs.Nodes.{laid_row}
+use Rattle.terms.specs.Layout.{in_use}
 use Rattle.terms.specs.Substitution.{occurrences, occurrences_in}
 use Rattle.signature.specs.Declaring.{sig_of}
 use Rattle.lexer.specs.declared.token.Name.{Name as Named}
 use Rattle.lexer.specs.declared.token.Token.{Token}
 use Rattle.lexer.specs.declared.token.Token.TheVariants.{Name, Number, Instrument, Variable, Mark, Stray}
-use Rattle.terms.specs.Term.{Term, apply, nil, cons}
+use Rattle.terms.specs.Term.{apply, nil, cons}
 use Rattle.lexer.specs.declared.token.Lexeme.{Lexeme}
 use Rattle.lexer.specs.declared.token.Lexer.{Lexer}
 use Rattle.lexer.specs.Lexing.{meaning, what_is_left, ReadToken}
 use Rattle.reading.specs.declared.token.At.{At}
-use Rattle.reading.specs.declared.token.Mark.TheVariants.{Opening, Closing, Comma, Equals, Dash, Blank, LineEnd}
+use Rattle.reading.specs.declared.token.Mark.TheVariants.{Opening}
 use Rattle.reading.specs.declared.fault.TextFault.{TextFault}
 use Rattle.reading.specs.declared.fault.TextFault.TheVariants.{Unexpected, WrongArity}
 use Rattle.reading.specs.declared.fault.SheetFault.{SheetFault}
 use Rattle.reading.specs.declared.fault.SheetFault.TheVariants.{Text}
-use Rattle.reading.specs.Tokens.{Tok, a_name, a_number, an_instrument, a_variable, a_mark, a_stray, tokens}
-use Rattle.reading.specs.Reading.{Context, top, within, State, wants, opens, has, named, on_opens, fault_of, chain}
+use Rattle.reading.specs.Tokens.{Tok, a_variable, tokens}
+use Rattle.reading.specs.Reading.{Context, within, State, wants, opens, has, named, on_opens, fault_of, chain}
 use Rattle.reading.proofs.Tokens.{Lexed as WellCut, tokens_lexed}
 use Rattle.sheet_reading.specs.Sides.{Hand as Side, on_left, on_right, in_text, occurrences_before}
 use Rattle.sheet_reading.specs.Reading.{is_mark, Stand, rule_end}
@@ -31,47 +31,25 @@ use Rattle.sheet_reader.specs.declared.side.SideReader.{SideReader}
 use Rattle.sheet_reader.specs.declared.side.Whole.{Whole}
 use Rattle.sheet_reader.specs.Progress.{outcome, Reached, Meets, Goes}
 use Rattle.sheet_reader.specs.Sides.{Around, stand_in, inside, Marked, Fits, begun_with, ReadsLeaf, HasHead, arguments_from, ReadsTerm, ReadsRow}
-use Rattle.sheet_reader.proofs.Progress.{met, taken, refused, ends}
+use Rattle.sheet_reader.proofs.Progress.{each_token, met, taken, refused, ends}
 
--- '(' behind an operator
-does_open : (tok : Tok) (at : At) (f : ℕ) (a : At) (n : ℕ) (k : Context) → is_mark Opening tok ≡ true → on_opens tok at f a n k ≡ Ok (wants (within f a nil n k))
-does_open (a_name s) at f a n k e = cc
-does_open (a_number s) at f a n k e = cc
-does_open (an_instrument s) at f a n k e = cc
-does_open (a_variable x) at f a n k e = cc
-does_open (a_mark Opening) at f a n k e = refl
-does_open (a_mark Closing) at f a n k e = cc
-does_open (a_mark Comma) at f a n k e = cc
-does_open (a_mark Equals) at f a n k e = cc
-does_open (a_mark Dash) at f a n k e = cc
-does_open (a_mark Blank) at f a n k e = cc
-does_open (a_mark LineEnd) at f a n k e = cc
-does_open (a_stray b) at f a n k e = cc
+-- behind an operator
+on_opening : (tok : Tok) (at : At) (f : ℕ) (a : At) (n : ℕ) (k : Context) → on_opens tok at f a n k ≡ cond (is_mark Opening tok) (Ok (wants (within f a nil n k))) (Err (fault_of tok at (WrongArity a)))
+on_opening tok at f a n k =
+    each_token (λ j. on_opens j at f a n k ≡ cond (is_mark Opening j) (Ok (wants (within f a nil n k))) (Err (fault_of j at (WrongArity a)))) (λ s. refl) (λ s. refl) (λ s. refl) (λ x. refl) (λ b. refl) refl refl refl refl refl refl refl tok
 
-pub opened : (b : List ℕ) (i : Around) (f n : ℕ) (a : At) (l : Lexer) (x : Lexeme) (m : Lexer) → Reached b (stand_in i (opens f a n i.context)) l → ReadToken l x m → is_mark Opening (meaning x.token) ≡ true → Reached b (stand_in i (wants (within f a nil n i.context))) m
-opened b i f n a l x m r t e =
-    let s = stand_in i (opens f a n i.context) in
-    taken b s (stand_in i (wants (within f a nil n i.context))) x m (met b s l x m r t) (ap (λ (o : Result State TextFault). chain (in_text o) (λ u. Ok (stand_in i u))) (does_open (meaning x.token) x.at f a n i.context e))
+module _ (b : List ℕ) (i : Around) (f n : ℕ) (a : At) (l : Lexer) (x : Lexeme) (m : Lexer) (r : Reached b (stand_in i (opens f a n i.context)) l) (t : ReadToken l x m) where
+  -- '(' comes
+  pub opened : is_mark Opening (meaning x.token) ≡ true → Reached b (stand_in i (wants (within f a nil n i.context))) m
+  opened e =
+      let s = stand_in i (opens f a n i.context) in
+      taken b s (stand_in i (wants (within f a nil n i.context))) x m (met b s l x m r t) (ap (λ (o : Result State TextFault). chain (in_text o) (λ u. Ok (stand_in i u))) (on_opening (meaning x.token) x.at f a n i.context ∙ cond-true _ _ _ e))
 
--- another token
-not_opened : (tok : Tok) (at : At) (f : ℕ) (a : At) (n : ℕ) (k : Context) → is_mark Opening tok ≡ false → on_opens tok at f a n k ≡ Err (fault_of tok at (WrongArity a))
-not_opened (a_name s) at f a n k e = refl
-not_opened (a_number s) at f a n k e = refl
-not_opened (an_instrument s) at f a n k e = refl
-not_opened (a_variable x) at f a n k e = refl
-not_opened (a_mark Opening) at f a n k e = cc
-not_opened (a_mark Closing) at f a n k e = refl
-not_opened (a_mark Comma) at f a n k e = refl
-not_opened (a_mark Equals) at f a n k e = refl
-not_opened (a_mark Dash) at f a n k e = refl
-not_opened (a_mark Blank) at f a n k e = refl
-not_opened (a_mark LineEnd) at f a n k e = refl
-not_opened (a_stray b) at f a n k e = refl
-
-pub unopened : (b : List ℕ) (i : Around) (f n : ℕ) (a : At) (l : Lexer) (x : Lexeme) (m : Lexer) → Reached b (stand_in i (opens f a n i.context)) l → ReadToken l x m → is_mark Opening (meaning x.token) ≡ false → outcome b ≡ Err (Text (fault_of (meaning x.token) x.at (WrongArity a)))
-unopened b i f n a l x m r t e =
-    let s = stand_in i (opens f a n i.context) in
-    refused b s x m (Text (fault_of (meaning x.token) x.at (WrongArity a))) (met b s l x m r t) (ap (λ (o : Result State TextFault). chain (in_text o) (λ u. Ok (stand_in i u))) (not_opened (meaning x.token) x.at f a n i.context e))
+  -- another token
+  pub unopened : is_mark Opening (meaning x.token) ≡ false → outcome b ≡ Err (Text (fault_of (meaning x.token) x.at (WrongArity a)))
+  unopened e =
+      let s = stand_in i (opens f a n i.context) in
+      refused b s x m (Text (fault_of (meaning x.token) x.at (WrongArity a))) (met b s l x m r t) (ap (λ (o : Result State TextFault). chain (in_text o) (λ u. Ok (stand_in i u))) (on_opening (meaning x.token) x.at f a n i.context ∙ cond-false _ _ _ e))
 
 -- the end of the text
 opens_end : (i : Around) (d : Side) (f n : ℕ) (a at : At) → rule_end i.operators i.values i.rules d (opens f a n i.context) at ≡ Err (Text (WrongArity a))
@@ -80,11 +58,6 @@ opens_end i (on_right l) f n a at = refl
 
 pub unended : (b : List ℕ) (i : Around) (f n : ℕ) (a : At) (l : Lexer) → Reached b (stand_in i (opens f a n i.context)) l → what_is_left l ≡ [] → outcome b ≡ Err (Text (WrongArity a))
 unended b i f n a l r e = ends b (stand_in i (opens f a n i.context)) l r e ∙ opens_end i i.hand f n a l.at
-
--- the fault of the text
-pub gave_up : {A : Type 0} (b : List ℕ) (r : Result A SheetFault) {f : SheetFault} (Then : A → Type 0) → outcome b ≡ Err f → IsErrAnd r (λ e. e ≡ f) → Goes b r Then
-gave_up b (Ok x) Then g h = absurd h
-gave_up b (Err k) Then g h = g ∙ ap Err (sym h)
 
 -- where a term may begin
 
@@ -177,15 +150,3 @@ module _ {before r : SideReader} {room below : Room} (i : Around) {at : At} {ari
           spare_left = omega (arith, w.keeps.spare_left, h.falls.0);
         };
       }
-
--- which variables stand on a whole left side
-pub whole_marked : (marks : List Bool) (d : Side) (t : Term) → Marked marks d (λ x. occurrences x t + occurrences_before x top) → Marked marks d (λ x. occurrences x t)
-whole_marked marks d t = marked_as marks d (λ x. occurrences x t + 0) (λ x. occurrences x t) (λ x. omega arith)
-
--- the nodes of a whole side
-empty : (ns : List Node) → length ns ≡ 0 → ns ≡ []
-empty [] e = refl
-empty (n ∷ ns) e = absurd (omega arith)
-
-pub whole_laid : {b : List ℕ} {before r : SideReader} {room : Room} (i : Around) {whole : Whole} {l : Lexer} → length (in_use before.nodes) ≡ 0 → (w : ReadsTerm b before room i whole r l) → LaysOut r.nodes w.term
-whole_laid {before} i e w = w.nodes ∙ ap (λ ns. ns ++ laid (length ns) None w.term) (empty (in_use before.nodes) e)

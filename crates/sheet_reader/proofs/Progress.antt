@@ -9,10 +9,11 @@ use Rattle.reading.specs.declared.token.At.{At}
 use Rattle.std.proofs.lemmas.Bool.{cond-true, cond-false}
 use Rattle.std.proofs.lemmas.Bool.{and_from}
 use Rattle.reading.specs.declared.token.Mark.{Mark}
+use Rattle.reading.specs.declared.token.Mark.TheVariants.{Opening, Closing, Comma, Equals, Dash, Blank, LineEnd}
 use Rattle.reading.specs.declared.fault.TextFault.TheVariants.{Unexpected}
 use Rattle.reading.specs.declared.fault.SheetFault.{SheetFault}
 use Rattle.reading.specs.declared.fault.SheetFault.TheVariants.{Text}
-use Rattle.reading.specs.Tokens.{Tok, tokens, origin, past}
+use Rattle.reading.specs.Tokens.{Tok, a_name, a_number, an_instrument, a_variable, a_mark, a_stray, tokens, origin, past}
 use Rattle.reading.specs.Reading.{chain, run_with}
 use Rattle.reading.proofs.Running.{reach_with, chain_ok}
 use Rattle.reading.proofs.Tokens.{Lexed as WellCut, tokens_lexed}
@@ -42,6 +43,22 @@ module _ {S E : Type 0} (next : S → At → Tok → Result S E) where
   walk_reach s at (k ∷ ks) v e =
       let (u, q, r) = chain_ok (next s at k) (λ w. walk w (past at k) ks) v e in
       ap (λ (r : Result S E). chain r (λ w. reach_with next w (past at k) ks)) q ∙ walk_reach u (past at k) ks v r
+
+-- what holds of each kind of token, and of each mark, holds of every token
+pub each_token : (P : Tok → Type 0) → ((s : List ℕ) → P (a_name s)) → ((s : List ℕ) → P (a_number s)) → ((s : List ℕ) → P (an_instrument s)) → ((x : ℕ) → P (a_variable x)) → ((b : ℕ) → P (a_stray b))
+    → P (a_mark Opening) → P (a_mark Closing) → P (a_mark Comma) → P (a_mark Equals) → P (a_mark Dash) → P (a_mark Blank) → P (a_mark LineEnd) → (tok : Tok) → P tok
+each_token P name number instrument variable stray opening closing comma equals dash blank line_end (a_name s) = name s
+each_token P name number instrument variable stray opening closing comma equals dash blank line_end (a_number s) = number s
+each_token P name number instrument variable stray opening closing comma equals dash blank line_end (an_instrument s) = instrument s
+each_token P name number instrument variable stray opening closing comma equals dash blank line_end (a_variable x) = variable x
+each_token P name number instrument variable stray opening closing comma equals dash blank line_end (a_stray b) = stray b
+each_token P name number instrument variable stray opening closing comma equals dash blank line_end (a_mark Opening) = opening
+each_token P name number instrument variable stray opening closing comma equals dash blank line_end (a_mark Closing) = closing
+each_token P name number instrument variable stray opening closing comma equals dash blank line_end (a_mark Comma) = comma
+each_token P name number instrument variable stray opening closing comma equals dash blank line_end (a_mark Equals) = equals
+each_token P name number instrument variable stray opening closing comma equals dash blank line_end (a_mark Dash) = dash
+each_token P name number instrument variable stray opening closing comma equals dash blank line_end (a_mark Blank) = blank
+each_token P name number instrument variable stray opening closing comma equals dash blank line_end (a_mark LineEnd) = line_end
 
 -- the first of some things that all have a property
 all_before : {A : Type 0} (P : A → Type 0) (xs ys zs : List A) → zs ≡ xs ++ ys → AllByRecursion P zs → AllByRecursion P xs
@@ -101,15 +118,15 @@ module _ (b : List ℕ) where
   pub begins : (l : Lexer) → what_is_left l ≡ b → l.at ≡ origin → Reached b start l
   begins l e p = record { before = []; split = ap tokens (sym e); there = ap (λ at. Ok (start, at)) (sym p) }
 
--- a fault of what went before is passed on
-pub passed_on : {A B : Type 0} (b : List ℕ) (q : Result B SheetFault) (r : Result A SheetFault) (f : SheetFault) (On : B → Type 0) (Then : A → Type 0) → Goes b q On → q ≡ Err f → IsErrAnd r (λ e. e ≡ f) → Goes b r Then
-passed_on b q (Ok x) f On Then g e h = absurd h
-passed_on b q (Err k) f On Then g e h = subst (λ z. Goes b z On) e g ∙ ap Err (sym h)
+-- the fault of the text is passed on
+pub gave_up : {A : Type 0} (b : List ℕ) (r : Result A SheetFault) {f : SheetFault} (Then : A → Type 0) → outcome b ≡ Err f → IsErrAnd r (λ e. e ≡ f) → Goes b r Then
+gave_up b (Ok x) Then g h = absurd h
+gave_up b (Err k) Then g h = g ∙ ap Err (sym h)
 
 -- what holds behind it is followed by something else
 pub goes_map : {A : Type 0} (b : List ℕ) (r : Result A SheetFault) (On Then : A → Type 0) → ((x : A) → On x → Then x) → Goes b r On → Goes b r Then
-goes_map b (Ok x) On Then f g = f x g
-goes_map b (Err k) On Then f g = g
+goes_map b (Ok x) On Then h g = h x g
+goes_map b (Err f) On Then h g = g
 
 module _ (b : List ℕ) (s u : Stand) (bare : Option At) (mark : Mark) (w : Wants s bare mark u) (x : Lexeme) (l : Lexer) (m : Meets b s x l) where
   -- the mark comes

@@ -1,13 +1,11 @@
 -- Arguments, one after another.
-use Rattle.std.proofs.Common.{◌≡◌, ℕ, suc, ◌+◌, List, [], ◌∷◌, ◌++◌, length, set, Some, None, Ok, Err, Option, Result, sym, refl, ap, ◌∙◌, subst, append_assoc, append-nil, arith, length-append}
-use Rattle.std.proofs.lemmas.List.{get_or_at, set_at}
-use Rattle.terms.specs.Term.{Term, variable, instrument, apply, Terms, nil, cons, symbols, symbols_in}
+use Rattle.std.proofs.Common.{◌≡◌, ℕ, ◌+◌, List, ◌++◌, length, Some, None, Ok, Err, Option, Result, sym, refl, ap, ◌∙◌, subst, append_assoc, append-nil, arith, length-append}
+use Rattle.terms.specs.Term.{Term, apply, Terms, nil, cons, symbols, symbols_in}
 use Rattle.terms.specs.Substitution.{occurrences, occurrences_in}
-use Rattle.terms.specs.Nodes.{vacant, laid, laid_row, with_next}
+use Rattle.terms.specs.Nodes.{laid, laid_row, with_next}
 use Rattle.terms.specs.declared.layout.Layout.{Layout}
 use Rattle.terms.specs.Layout.{in_use}
-use Rattle.terms.proofs.Laying.{length-laid}
-use Rattle.terms.specs.declared.node.Node.{Node}
+use Rattle.terms.proofs.Laying.{length-laid, relaid}
 use Rattle.signature.specs.Declaring.{sig_of}
 use Rattle.lexer.specs.declared.token.Lexeme.{Lexeme}
 use Rattle.lexer.specs.declared.token.Lexer.{Lexer}
@@ -15,7 +13,6 @@ use Rattle.lexer.specs.Lexing.{meaning}
 use Rattle.reading.specs.declared.token.At.{At}
 use Rattle.reading.specs.declared.fault.TextFault.{TextFault}
 use Rattle.reading.specs.declared.fault.TextFault.TheVariants.{Unexpected}
-use Rattle.reading.specs.declared.fault.SheetFault.{SheetFault}
 use Rattle.reading.specs.declared.fault.SheetFault.TheVariants.{Text}
 use Rattle.reading.specs.Reading.{Context, within, State, wants, has, and_then, on_has, chain}
 use Rattle.sheet_reading.specs.Sides.{Hand as Side, on_left, on_right, in_text, occurrences_before}
@@ -23,7 +20,7 @@ use Rattle.sheet_reading.specs.Reading.{rule_end}
 use Rattle.sheet_reader.specs.declared.side.Room.{Room}
 use Rattle.sheet_reader.specs.declared.side.SideReader.{SideReader}
 use Rattle.sheet_reader.specs.declared.side.Whole.{Whole}
-use Rattle.sheet_reader.specs.Progress.{outcome, Reached, Meets, Goes, EndsEarly}
+use Rattle.sheet_reader.specs.Progress.{outcome, Reached, Meets, EndsEarly}
 use Rattle.sheet_reader.specs.Sides.{Around, stand_in, inside, joined, Fits, ReadsTerm, ReadsRow}
 use Rattle.sheet_reader.proofs.Progress.{taken, refused}
 use Rattle.sheet_reader.proofs.Nested.{marked_as}
@@ -46,17 +43,6 @@ joined_then : (ts : Terms) (t : Term) (us : Terms) → joined (and_then ts t) us
 joined_then nil t us = refl
 joined_then (cons v vs) t us = ap (cons v) (joined_then vs t us)
 
--- linking the root of what is laid out last
-rooted : (pre : List Node) (j q : ℕ) (n : Node) (rest : List Node) → length pre ≡ j → with_next (pre ++ n ∷ rest) j q ≡ pre ++ (record { symbol = n.symbol; first = n.first; next = Some q } ∷ rest)
-rooted pre j q n rest e =
-    ap (λ (x : Node). set (pre ++ n ∷ rest) j (record { symbol = x.symbol; first = x.first; next = Some q })) (get_or_at pre n rest vacant j e)
-    ∙ set_at pre n rest _ j e
-
-relaid : (pre : List Node) (j q : ℕ) (t : Term) → length pre ≡ j → with_next (pre ++ laid j None t) j q ≡ pre ++ laid j (Some q) t
-relaid pre j q (variable x) e = rooted pre j q _ [] e
-relaid pre j q (instrument n) e = rooted pre j q _ [] e
-relaid pre j q (apply f ts) e = rooted pre j q _ (laid_row (suc j) ts) e
-
 -- the text must not end between parentheses
 
 wants_end : (i : Around) (d : Side) (f : ℕ) (a : At) (ts : Terms) (n : ℕ) (at : At) → rule_end i.operators i.values i.rules d (wants (within f a ts n i.context)) at ≡ Err (Text (Unexpected at))
@@ -72,11 +58,6 @@ has_end i (on_right l) t m k at = refl
 
 pub has_early : (i : Around) (t : Term) (m : Option At) (k : Context) → EndsEarly (stand_in i (has t m k))
 has_early i t m k at = has_end i i.hand t m k at
-
--- what is read further
-pub goes_then : {A : Type 0} (b : List ℕ) (r : Result A SheetFault) (On Then : A → Type 0) → ((x : A) → On x → Then x) → Goes b r On → Goes b r Then
-goes_then b (Ok x) On Then h g = h x g
-goes_then b (Err f) On Then h g = g
 
 -- behind an argument
 

@@ -2,18 +2,17 @@
 use Rattle.std.proofs.Common.{◌≡◌, ℕ, ltb, ◌+◌, ◌<◌, List, [], ◌∷◌, ◌++◌, length, length-append, cond, None, Ok, Err, Option, refl, ap, ◌∙◌, arith}
 use Rattle.std.specs.List.{AllByRecursion}
 use Rattle.terms.specs.declared.layout.Layout.{Layout}
-use Rattle.terms.specs.Term.{Term, variable, instrument, apply, Terms, nil, cons}
+use Rattle.terms.specs.Term.{Term}
 use Rattle.terms.specs.Rule.{Rule, RuleOf}
-use Rattle.terms.specs.Signature.{Sig, Declared}
-use Rattle.terms.specs.Ticket.{TermOf, TermsOf}
+use Rattle.terms.specs.Signature.{Sig}
 use Rattle.terms.specs.Layout.{LaysOut}
-use Rattle.terms.proofs.Laying.{Narrow, AllNarrow}
+use Rattle.terms.proofs.Laying.{term_narrow}
 use Rattle.terms.specs.declared.node.Node.{Node}
 use Rattle.terms.specs.Nodes.{laid}
 use Rattle.reading.specs.declared.token.At.{At}
-use Rattle.reading.specs.declared.token.Mark.TheVariants.{Opening, Closing, Comma, Equals, Dash, Blank, LineEnd}
+use Rattle.reading.specs.declared.token.Mark.TheVariants.{Equals, LineEnd}
 use Rattle.reading.specs.declared.fault.SheetFault.TheVariants.{Text}
-use Rattle.reading.specs.Tokens.{Tok, a_name, a_number, an_instrument, a_variable, a_mark, a_stray}
+use Rattle.reading.specs.Tokens.{Tok}
 use Rattle.reading.specs.Reading.{top, wants, has}
 use Rattle.sheet.specs.Terms.{LaidSide, term_in}
 use Rattle.sheet.specs.declared.side.Side.{Side as Stored}
@@ -35,21 +34,12 @@ use Rattle.sheet_reader.specs.declared.side.Whole.{Whole}
 use Rattle.sheet_reader.specs.Progress.{Reached, Wants, EndsEarly, misplaced}
 use Rattle.sheet_reader.specs.Sides.{on_the_left, Fits, ReadsTerm}
 use Rattle.sheet_reader.specs.Rules.{outermost, end_mark, ReadsSide}
+use Rattle.sheet_reader.proofs.Progress.{each_token}
 
 -- the last of some things that all have a property
 last_has : {A : Type 0} (P : A → Type 0) (xs : List A) (y : A) → AllByRecursion P (xs ++ y ∷ []) → P y
 last_has P [] y h = h.0
 last_has P (x ∷ xs) y h = last_has P xs y h.1
-
-mutual
-  term_narrow : (sig : Sig) → Declared sig → (t : Term) → TermOf sig t → Narrow t
-  term_narrow sig d (variable x) h = tt
-  term_narrow sig d (instrument n) h = tt
-  term_narrow sig d (apply f ts) h = (omega (arith, h.1, d.are_ranked f h.0), terms_narrow sig d ts h.2)
-
-  terms_narrow : (sig : Sig) → Declared sig → (ts : Terms) → TermsOf sig ts → AllNarrow ts
-  terms_narrow sig d nil h = tt
-  terms_narrow sig d (cons t ts) h = (term_narrow sig d t h.0, terms_narrow sig d ts h.1)
 
 -- a rule was read behind others: what is known of it
 module _ (sig : Sig) (grid : Grid) (rules : List Rule) (r : Rule) (g : Good (in_rule sig grid (rules ++ r ∷ []) on_left (wants top))) where
@@ -93,18 +83,8 @@ only_laid (n ∷ ns) after t none e = absurd (omega (arith, none))
 
 -- what may not stand behind a whole side
 behind_whole : (sig : Sig) (grid : Grid) (rules : List Rule) (d : Side) (t : Term) (bare : Option At) (at : At) (k : Tok) → in_side limits sig grid rules d (has t bare top) k at ≡ Err (Text (misplaced bare k at))
-behind_whole sig grid rules d t bare at (a_name s) = refl
-behind_whole sig grid rules d t bare at (a_number s) = refl
-behind_whole sig grid rules d t bare at (an_instrument s) = refl
-behind_whole sig grid rules d t bare at (a_variable x) = refl
-behind_whole sig grid rules d t bare at (a_mark Opening) = refl
-behind_whole sig grid rules d t bare at (a_mark Closing) = refl
-behind_whole sig grid rules d t bare at (a_mark Comma) = refl
-behind_whole sig grid rules d t bare at (a_mark Equals) = refl
-behind_whole sig grid rules d t bare at (a_mark Dash) = refl
-behind_whole sig grid rules d t bare at (a_mark Blank) = refl
-behind_whole sig grid rules d t bare at (a_mark LineEnd) = refl
-behind_whole sig grid rules d t bare at (a_stray x) = refl
+behind_whole sig grid rules d t bare at k =
+    each_token (λ j. in_side limits sig grid rules d (has t bare top) j at ≡ Err (Text (misplaced bare j at))) (λ s. refl) (λ s. refl) (λ s. refl) (λ x. refl) (λ b. refl) refl refl refl refl refl refl refl k
 
 -- the mark behind a side ends it
 pub side_ends : (sig : Sig) (grid : Grid) (rules : List Rule) (d : Side) (t : Term) (bare : Option At) → Wants (in_rule sig grid rules d (has t bare top)) bare (end_mark d) (behind_side sig grid rules d t)

@@ -31,7 +31,7 @@ pub(crate) fn misplaced(lexeme: Lexeme, bare: Option<At>) -> TextFault
 }
 
 // Whether a token is this mark.
-fn is_mark(token: Token, mark: Mark) -> bool
+pub(crate) fn is_mark(token: Token, mark: Mark) -> bool
     ensures { result ≡ is_mark mark (meaning token.entry) }
 {
     match token {

@@ -5,6 +5,7 @@ ghost use Rattle.sheet_reader.specs.Progress.{start, Reached, Goes};
 ghost use Rattle.sheet_reader.specs.Reading.{FillsSheet};
 
 use crate::rules::read_rules;
+use crate::taking::next;
 use crate::values::read_weighings;
 use lexer::token::Lexer;
 use reader::heading::{Heading, SHEET_BYTES};
@@ -21,9 +22,7 @@ fn read_heading<'t>(lexer: &mut Lexer<'t>) -> Result<Signature, SheetFault>
 {
     let mut heading = Heading::new();
     while !heading.is_done() {
-        let Some(lexeme) = lexer.next_token() else {
-            return Err(TextFault::Unexpected(lexer.at).into());
-        };
+        let lexeme = next(lexer)?;
         heading.step(lexeme)?;
     }
     heading.finish(lexer.at)

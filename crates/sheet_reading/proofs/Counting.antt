@@ -8,13 +8,13 @@ use Rattle.terms.specs.Substitution.{occurrences, occurrences_in}
 use Rattle.reading.specs.declared.token.At.{At}
 use Rattle.reading.specs.declared.token.Mark.TheVariants.{Opening, Closing, Comma}
 use Rattle.reading.specs.Tokens.{Tok, a_name, an_instrument, a_variable, a_mark, tokens}
-use Rattle.reading.specs.Reading.{Context, top, within}
+use Rattle.reading.specs.Reading.{Context, top, within, State, wants, opens, has}
 use Rattle.reading.specs.Laws.{further_arguments, arguments_so_far}
 use Rattle.reading.proofs.Lexing.{closing, parts, tokens_term}
-use Rattle.reading.proofs.States.{name_of, awaiting, stack_tokens}
+use Rattle.reading.proofs.States.{name_of, awaiting, stack_tokens, state_tokens}
 use Rattle.sheet_reading.specs.Sides.{symbols_before, depth, occurrences_before}
-use Rattle.sheet_reading.specs.Laws.{count, symbol, mark, the_variable}
-use Rattle.sheet_reading.proofs.SideStates.{ContextShaped}
+use Rattle.sheet_reading.specs.Laws.{count, symbol, mark, the_variable, side_end}
+use Rattle.sheet_reading.proofs.SideStates.{ContextShaped, StateShaped}
 
 pub count_append : (f : Tok → ℕ) (ks ls : List Tok) → count f (ks ++ ls) ≡ count f ks + count f ls
 count_append f [] ls = omega arith
@@ -109,6 +109,20 @@ weighs_variable x = record {
   at_within = λ s h a ts n k. omega arith;
 }
 
+-- nothing in a term ends a side
+weighs_end : Weighs side_end none (λ _. 0) (λ _. 0) (λ _. 0)
+weighs_end = record {
+  at_variable = λ x. refl;
+  at_instrument = λ s n. refl;
+  at_operator = λ s h ts. refl;
+  at_nil = refl;
+  at_cons = λ t ts. refl;
+  at_comma = refl;
+  at_parentheses = refl;
+  at_top = refl;
+  at_within = λ s h a ts n k. refl;
+}
+
 -- parentheses in a term are closed, and those around what comes are open
 weighs_depth : Weighs (mark Opening) (mark Closing) (λ _. 0) (λ _. 0) depth
 weighs_depth = record {
@@ -138,3 +152,14 @@ module _ {sig : Sig} (good : Declared sig) where
 
   pub open_so_far : (before : List Tok) (k : Context) → ContextShaped sig before k → count (mark Opening) (stack_tokens sig k) ≡ count (mark Closing) (stack_tokens sig k) + depth k
   open_so_far = count_stack good weighs_depth
+
+  pub unended_term : (t : Term) → TermOf sig t → count side_end (tokens (text_of sig t)) ≡ 0
+  unended_term t h = omega (arith, count_term good weighs_end t h, count_none (tokens (text_of sig t)))
+
+  unended_stack : (before : List Tok) (k : Context) → ContextShaped sig before k → count side_end (stack_tokens sig k) ≡ 0
+  unended_stack before k h = omega (arith, count_stack good weighs_end before k h, count_none (stack_tokens sig k))
+
+  pub unended_so_far : (before : List Tok) (s : State) → StateShaped sig before s → count side_end (state_tokens sig s) ≡ 0
+  unended_so_far before (wants k) h = unended_stack before k h
+  unended_so_far before (opens f a n k) h = omega (arith, count_then side_end (stack_tokens sig k) (name_of sig f), unended_stack before k h.1)
+  unended_so_far before (has t b k) h = omega (arith, count_append side_end (stack_tokens sig k) (tokens (text_of sig t)), unended_stack before k h.1, unended_term t h.0)

@@ -21,4 +21,5 @@ pub mod Larger
 pub mod Stuck
 pub mod Fresh
 pub mod Completing
+pub mod Beyond
 pub mod Reading

@@ -24,6 +24,7 @@ use Rattle.sheet_reading.proofs.Telling.{tells, cause}
 use Rattle.sheet_reading.proofs.Back.{behind_sheet, sheet_back}
 use Rattle.sheet_reading.proofs.Completing.{begun}
 use Rattle.sheet_reading.proofs.Stuck.{stuck}
+use Rattle.sheet_reading.proofs.Beyond.{none_beyond}
 
 -- a sheet may end only behind its last rule
 
@@ -70,6 +71,7 @@ module _ (b : List ℕ) where
         shaped = t.shaped;
         rest = t.rest;
         begins = tokens_sheet t.sheet t.shaped ∙ t.begins ∙ ap (λ l. l ++ t.rest) z.so_far;
+        none_before = none_beyond ks y.state lexed y.there;
         refused = refused_for t.sheet.operators ks w f c (stuck ks y.state y.there w f y.refuses);
       }
 

@@ -13,9 +13,9 @@ use Rattle.reading.proofs.States.{state_tokens}
 use Rattle.reading.proofs.Telling.{same_at, length_whole}
 use Rattle.sheet_reading.specs.Values.{Value, Grid}
 use Rattle.sheet_reading.specs.Sheet.{Sheet, Limits}
-use Rattle.sheet_reading.specs.Sides.{Hand, on_left, on_right}
+use Rattle.sheet_reading.specs.Sides.{Hand}
 use Rattle.sheet_reading.specs.Reading.{Stand, in_heading, wants_value, has_value, has_word, in_rule, Move, sheet_step}
-use Rattle.sheet_reading.specs.Laws.{count, Behind, names_on}
+use Rattle.sheet_reading.specs.Laws.{count, Behind, names_on, hand_tokens}
 use Rattle.sheet_reading.proofs.Counting.{count_then}
 use Rattle.reading.proofs.Heads.{head_tokens}
 
@@ -59,10 +59,6 @@ rules_push sig [] r = append-nil (rule_tokens sig r)
 rules_push sig (q ∷ rs) r = ap (λ l. rule_tokens sig q ++ l) (rules_push sig rs r) ∙ sym (append_assoc (rule_tokens sig q) (rules_tokens sig rs) (rule_tokens sig r))
 
 -- tokens of a stand
-
-abbrev pub hand_tokens : Sig → Hand → List Tok
-hand_tokens sig on_left = []
-hand_tokens sig (on_right l) = tokens (text_of sig l) ++ (a_mark Equals ∷ [])
 
 abbrev pub sheet_of : Sig → Grid → List Rule → Sheet
 sheet_of sig grid rules = record { operators = sig; values = grid; rules = rules }

@@ -46,11 +46,14 @@ module _ (ks : List Tok) (s : Stand) (there : reach limits start origin ks ≡ O
   there_wide : (t : Sheet) → reach (wide t) start origin ks ≡ Ok s
   there_wide t = reached limits (wide t) (more_wide t) start origin ks s there
 
+  -- behind a whole sheet it stands where a rule may begin
+  pub is_behind : (t : Sheet) → SheetShaped t → tokens (sheet_text t) ≡ ks → s ≡ behind_sheet t
+  is_behind t h q = same_ok (sym (there_wide t) ∙ ap (reach (wide t) start origin) (sym q) ∙ read_wide t h)
+
   pub stuck : (w : Wrong) (f : SheetFault) → Refuses (sheet_step limits) sheet_end s (passed origin ks) w f → (OfLimit f → ⊥) → StuckAt ks w
   stuck None f e free = λ b.
       let (t, h, q) = b in
-      let same : s ≡ behind_sheet t = same_ok (sym (there_wide t) ∙ ap (reach (wide t) start origin) (sym q) ∙ read_wide t h) in
-      not_both (sym (ap (λ x. sheet_end x (passed origin ks)) same) ∙ e)
+      not_both (sym (ap (λ x. sheet_end x (passed origin ks)) (is_behind t h q)) ∙ e)
   stuck (Some k) f e free = λ b.
       let (t, h, more) = b in
       let (rest, q) = more in

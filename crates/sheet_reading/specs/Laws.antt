@@ -7,7 +7,7 @@ use Rattle.terms.specs.Substitution.{occurrences}
 use Rattle.terms.specs.Text.{text_of}
 use Rattle.reading.specs.declared.token.At.{At}
 use Rattle.reading.specs.declared.token.Mark.{Mark}
-use Rattle.reading.specs.declared.token.Mark.TheVariants.{Opening, Closing, Equals, Blank}
+use Rattle.reading.specs.declared.token.Mark.TheVariants.{Opening, Closing, Equals, Blank, LineEnd}
 use Rattle.reading.specs.declared.fault.TextFault.{TextFault}
 use Rattle.reading.specs.declared.fault.TextFault.TheVariants.{Stray, BadNumber, Unexpected, Undeclared, WrongArity, PastLimit}
 use Rattle.reading.specs.Tokens.{Tok, a_name, a_number, an_instrument, a_variable, a_mark, a_stray, tokens, whole, lines, origin}
@@ -16,6 +16,7 @@ use Rattle.reading.specs.Laws.{Wrong, first_of, ShowsCount, arguments_so_far}
 use Rattle.reading.specs.declared.fault.SheetFault.{SheetFault}
 use Rattle.reading.specs.declared.fault.SheetFault.TheVariants.{Text, Repeated, Headless, Doubled, Unbound}
 use Rattle.sheet_reading.specs.Sheet.{Sheet, SheetShaped, limits, SheetWithin, sheet_text}
+use Rattle.sheet_reading.specs.Sides.{Hand, on_left, on_right}
 use Rattle.sheet_reading.specs.Reading.{is_mark, read_sheet}
 
 -- the text of some sheet, its size aside, begins with these tokens
@@ -63,17 +64,28 @@ the_variable x (a_stray b) = 0
 abbrev pub Behind : List Tok → At → Type 0
 Behind before at = at ≡ record { place = length (whole before); line = count lines before }
 
--- the tokens of a whole sheet, of a left side over its operators, and '='
-pub record LeftSide (ks : List Tok) : Type 0 where
+-- 1 for what ends a side: '=' or the end of the line
+abbrev pub side_end : Tok → ℕ
+side_end k = mark Equals k + mark LineEnd k
+
+-- the tokens between a sheet and a side that begins behind it: the left side and '=', where the right one is read
+abbrev pub hand_tokens : Sig → Hand → List Tok
+hand_tokens sig on_left = []
+hand_tokens sig (on_right l) = tokens (text_of sig l) ++ (a_mark Equals ∷ [])
+
+abbrev pub HandTerm : Sig → Hand → Type 0
+HandTerm sig on_left = Unit {0}
+HandTerm sig (on_right l) = TermOf sig l
+
+-- behind a whole sheet a side of a further rule has begun, and has not ended
+pub record InSide (before : List Tok) : Type 0 where
   pub sheet : Sheet
   pub shaped : SheetShaped sheet
-  pub left : Term
-  pub is_term : TermOf sheet.operators left
-  pub stands : ks ≡ tokens (sheet_text sheet) ++ (tokens (text_of sheet.operators left) ++ (a_mark Equals ∷ []))
-
--- a side of a rule comes behind these tokens
-abbrev pub BeforeSide : List Tok → Type 0
-BeforeSide ks = WholeSheet ks ⊎ LeftSide ks
+  pub hand : Hand
+  pub left : HandTerm sheet.operators hand
+  pub side : List Tok
+  pub unended : count side_end side ≡ 0
+  pub stands : before ≡ (tokens (sheet_text sheet) ++ hand_tokens sheet.operators hand) ++ side
 
 -- names, each with a blank behind it
 abbrev pub names_on : Sig → List Tok
@@ -84,8 +96,12 @@ names_on (o ∷ os) = a_name o.name ∷ (a_mark Blank ∷ names_on os)
 pub data BeyondLimit (before : List Tok) : Type 0 where
   many_names : (sig : Sig) → Declared sig → length sig ≡ 32 → before ≡ names_on sig → BeyondLimit before
   many_rules : (s : Sheet) → SheetShaped s → length s.rules ≡ 32 → before ≡ tokens (sheet_text s) → BeyondLimit before
-  many_symbols : (earlier side : List Tok) → BeforeSide earlier → count symbol side ≡ 32 → before ≡ earlier ++ side → BeyondLimit before
-  many_levels : (earlier side : List Tok) → BeforeSide earlier → count (mark Opening) side ≡ count (mark Closing) side + 16 → before ≡ earlier ++ side → BeyondLimit before
+  many_symbols : (z : InSide before) → count symbol z.side ≡ 32 → BeyondLimit before
+  many_levels : (z : InSide before) → count (mark Opening) z.side ≡ count (mark Closing) z.side + 16 → BeyondLimit before
+
+-- no symbol among these tokens is past a limit
+abbrev pub NoneBeyond : List Tok → Type 0
+NoneBeyond ks = (before : List Tok) (k : Tok) (behind : List Tok) → ks ≡ before ++ (k ∷ behind) → symbol k ≡ 1 → BeyondLimit before → ⊥
 
 -- an operator stands before the wrong token, with the arguments so far, and the token shows a wrong count; the place is the operator's
 pub record Miscounted (sig : Sig) (before : List Tok) (w : Wrong) (at : At) : Type 0 where
@@ -98,21 +114,18 @@ pub record Miscounted (sig : Sig) (before : List Tok) (w : Wrong) (at : At) : Ty
   pub shows : ShowsCount (op_of sig operator).arity so_far w
   pub its_place : Behind earlier at
 
--- a left side has begun behind a whole sheet, and the variable stands in it
+-- the variable stands in a left side
 pub record InLeft (x : ℕ) (before : List Tok) : Type 0 where
-  pub earlier : List Tok
-  pub side : List Tok
-  pub begun : WholeSheet earlier
-  pub stands : before ≡ earlier ++ side
-  pub among : 1 ≤ count (the_variable x) side
+  pub place : InSide before
+  pub on_the_left : place.hand ≡ on_left
+  pub among : 1 ≤ count (the_variable x) place.side
 
 -- a right side has begun, and the variable does not stand in the left one
 pub record NotInLeft (x : ℕ) (before : List Tok) : Type 0 where
-  pub earlier : List Tok
-  pub side : List Tok
-  pub begun : LeftSide earlier
-  pub stands : before ≡ earlier ++ side
-  pub not_among : occurrences x begun.left ≡ 0
+  pub place : InSide before
+  pub left : Term
+  pub on_the_right : place.hand ≡ on_right left
+  pub not_among : occurrences x left ≡ 0
 
 -- why a token, or the end, is refused behind these tokens, and where: no sheet goes on with it, for a reason that the fault names; or it is past a limit
 abbrev pub TextRefused : Sig → List Tok → Wrong → TextFault → Type 0
@@ -130,13 +143,14 @@ RefusedFor sig before w (Headless at) = Behind before at × StuckAt before w × 
 RefusedFor sig before w (Doubled at) = Behind before at × StuckAt before w × ((x : ℕ) × (w ≡ Some (a_variable x)) × InLeft x before)
 RefusedFor sig before w (Unbound at) = Behind before at × StuckAt before w × ((x : ℕ) × (w ≡ Some (a_variable x)) × NotInLeft x before)
 
--- the first wrong token decides: what stands before it begins the text of a sheet
+-- the first wrong token decides, or the first one past a limit: what stands before it begins the text of a sheet, and no symbol there is past a limit
 pub record FirstWrong (b : List ℕ) (f : SheetFault) : Type 0 where
   pub before : ℕ
   pub sheet : Sheet
   pub shaped : SheetShaped sheet
   pub rest : List Tok
   pub begins : tokens (sheet_text sheet) ≡ take before (tokens b) ++ rest
+  pub none_before : NoneBeyond (take before (tokens b))
   pub refused : RefusedFor sheet.operators (take before (tokens b)) (first_of (drop before (tokens b))) f
 
 -- an accepted text is the text of the sheet that is read, which is within the limits; a refused one is too long, or has a first wrong token

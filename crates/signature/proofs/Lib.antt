@@ -1,1 +1,2 @@
 pub mod Operators
+mod Names

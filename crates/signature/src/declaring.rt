@@ -1,4 +1,4 @@
-ghost use Rattle.std.specs.Prelude.{◌≡◌, ◌<◌, ◌≤◌, [], length, MatchOption, IfSome};
+ghost use Rattle.std.specs.Prelude.{◌≡◌, ◌<◌, ◌≤◌, [], length, MatchOption, IfSome, IsTrue, ◌↔◌};
 ghost use Rattle.terms.specs.Signature.{op_of, found};
 ghost use Rattle.signature.specs.Operators.{op_from};
 ghost use Rattle.signature.specs.Declaring.{sig_of, Declares, Ranks};
@@ -8,6 +8,15 @@ use crate::operator::naming::is_name;
 use crate::operator::{Operator, Undeclarable, Unrankable};
 use fixed_vec::FixedVec;
 
+// A number by which names are mostly told apart: from the first byte, the last and the length.
+fn mark(name: &[u8]) -> u8 {
+    match name {
+        [] => 0,
+        [only] => *only,
+        [first, .., last] => first.wrapping_mul(5).wrapping_add(last.wrapping_mul(3)),
+    }
+}
+
 impl Signature {
     // With no operator.
     pub fn new() -> Signature
@@ -15,6 +24,7 @@ impl Signature {
     {
         Signature {
             operators: FixedVec::new(Operator::named(&[])),
+            likely: [0; 256],
         }
     }
 
@@ -51,7 +61,29 @@ impl Signature {
     }
 
     // The operator of a name.
+    #[tactic(auto, using(crate::proofs::Names::found_there))]
     pub fn find(&self, name: &[u8]) -> Option<u8>
+        ensures { result ≡ found (sig_of self.now) name.now }
+    {
+        let likely = self.likely[usize::from(mark(name))];
+        if self.is_named(likely, name) {
+            return Some(likely);
+        }
+        self.search(name)
+    }
+
+    // Whether an operator is declared and has this name.
+    fn is_named(&self, operator: u8, name: &[u8]) -> bool
+        ensures { IsTrue result ↔ ((operator < length (sig_of self.now)) × ((op_of (sig_of self.now) operator).name ≡ name.now)) }
+    {
+        match self.operator(operator) {
+            Some(declared) => declared.name.bytes.as_slice() == name,
+            None => false,
+        }
+    }
+
+    // The operator of a name, by going through all.
+    fn search(&self, name: &[u8]) -> Option<u8>
         ensures { result ≡ found (sig_of self.now) name.now }
     {
         let place = self.place(name)?;
@@ -81,6 +113,7 @@ impl Signature {
         if self.find(name).is_some() {
             return Err(Undeclarable::Twice);
         }
+        self.likely[usize::from(mark(name))] = self.operators.len() as u8;
         self.operators.push(Operator::named(name)).unwrap();
         Ok(())
     }

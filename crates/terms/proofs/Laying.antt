@@ -1,14 +1,15 @@
 -- A term that is laid out in reading order stands at the place of its first node.
-use Rattle.std.proofs.Common.{◌≡◌, ℕ, zero, suc, ◌+◌, ◌<◌, ◌≤◌, List, [], ◌∷◌, ◌++◌, length, get_or, Some, None, Option, sym, refl, ap, ◌∙◌, ⊎_elim, append_assoc, append-nil, arith, length-append}
-use Rattle.std.proofs.lemmas.List.{get_or_at, get_or-append_right}
+use Rattle.std.proofs.Common.{◌≡◌, ℕ, zero, suc, ◌+◌, ◌<◌, ◌≤◌, List, [], ◌∷◌, ◌++◌, length, get_or, set, Some, None, Option, sym, refl, ap, ◌∙◌, ⊎_elim, append_assoc, append-nil, arith, length-append}
+use Rattle.std.proofs.lemmas.List.{get_or_at, get_or-append_right, set_at}
 use Rattle.std.proofs.lemmas.Bool.{cases_lt}
 use Rattle.terms.specs.declared.node.Node.{Node}
 use Rattle.terms.specs.Term.{Term, variable, instrument, apply, Terms, nil, cons, how_many, symbols, symbols_in}
 use Rattle.terms.specs.Signature.{Sig, Declared}
-use Rattle.terms.specs.Ticket.{Ticket, Tickets}
+use Rattle.terms.specs.Ticket.{TermOf, TermsOf, Ticket}
 use Rattle.terms.specs.View.{Stands, StandFrom}
-use Rattle.terms.specs.Nodes.{vacant, along, node_answers, start, laid, laid_row}
+use Rattle.terms.specs.Nodes.{vacant, along, node_answers, start, laid, laid_row, with_next}
 use Rattle.terms.proofs.Nodes.{argument_within, argument_past}
+use Rattle.terms.proofs.Readable.{ticket_term}
 
 -- as many nodes as symbols
 mutual
@@ -36,14 +37,17 @@ abbrev mutual
   AllNarrow (cons t ts) = Narrow t × AllNarrow ts
 
 mutual
-  pub ticket_narrow : (sig : Sig) → Declared sig → (t : Term) → Ticket sig t → Narrow t
-  ticket_narrow sig d (variable x) h = tt
-  ticket_narrow sig d (instrument n) h = tt
-  ticket_narrow sig d (apply f ts) h = (omega (arith, h.1, d.are_ranked f h.0), tickets_narrow sig d ts h.2)
+  pub term_narrow : (sig : Sig) → Declared sig → (t : Term) → TermOf sig t → Narrow t
+  term_narrow sig d (variable x) h = tt
+  term_narrow sig d (instrument n) h = tt
+  term_narrow sig d (apply f ts) h = (omega (arith, h.1, d.are_ranked f h.0), terms_narrow sig d ts h.2)
 
-  tickets_narrow : (sig : Sig) → Declared sig → (ts : Terms) → Tickets sig ts → AllNarrow ts
-  tickets_narrow sig d nil h = tt
-  tickets_narrow sig d (cons t ts) h = (ticket_narrow sig d t h.0, tickets_narrow sig d ts h.1)
+  terms_narrow : (sig : Sig) → Declared sig → (ts : Terms) → TermsOf sig ts → AllNarrow ts
+  terms_narrow sig d nil h = tt
+  terms_narrow sig d (cons t ts) h = (term_narrow sig d t h.0, terms_narrow sig d ts h.1)
+
+pub ticket_narrow : (sig : Sig) → Declared sig → (t : Term) → Ticket sig t → Narrow t
+ticket_narrow sig d t h = term_narrow sig d t (ticket_term sig t h)
 
 -- one sibling further
 along_suc : (ns : List Node) (l : Option ℕ) (k q : ℕ) → along ns l k ≡ Some q → along ns l (suc k) ≡ (get_or ns q vacant).next
@@ -100,3 +104,14 @@ mutual
 -- a whole layout
 pub laid_stands : (ns : List Node) (t : Term) → Narrow t → ns ≡ laid 0 None t → Stands (node_answers ns) 0 t
 laid_stands ns t h e = stands_laid ns 0 None t h ([], [], e ∙ sym (append-nil (laid 0 None t)), refl)
+
+-- linking the root of what is laid out last
+rooted : (pre : List Node) (j q : ℕ) (n : Node) (rest : List Node) → length pre ≡ j → with_next (pre ++ n ∷ rest) j q ≡ pre ++ (record { symbol = n.symbol; first = n.first; next = Some q } ∷ rest)
+rooted pre j q n rest e =
+    ap (λ (x : Node). set (pre ++ n ∷ rest) j (record { symbol = x.symbol; first = x.first; next = Some q })) (get_or_at pre n rest vacant j e)
+    ∙ set_at pre n rest _ j e
+
+pub relaid : (pre : List Node) (j q : ℕ) (t : Term) → length pre ≡ j → with_next (pre ++ laid j None t) j q ≡ pre ++ laid j (Some q) t
+relaid pre j q (variable x) e = rooted pre j q _ [] e
+relaid pre j q (instrument n) e = rooted pre j q _ [] e
+relaid pre j q (apply f ts) e = rooted pre j q _ (laid_row (suc j) ts) e

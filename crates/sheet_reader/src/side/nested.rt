@@ -2,24 +2,15 @@ ghost use Rattle.std.specs.Prelude.{◌≡◌, ℕ, ◌<◌, List, Ok, IfOk};
 ghost use Rattle.terms.specs.Term.{Term, Terms, nil};
 ghost use Rattle.lexer.specs.declared.token.Token.TheVariants.{Name as is_name};
 ghost use Rattle.reading.specs.Reading.{Context, within, wants, opens, on_has, and_then, chain};
-ghost use Rattle.sheet_reading.specs.Reading.{is_mark};
-ghost use Rattle.reading.specs.declared.token.Mark.TheVariants.{Opening};
 ghost use Rattle.lexer.specs.Lexing.{meaning};
 ghost use Rattle.sheet_reader.specs.Progress.{Reached, Meets, Goes};
 ghost use Rattle.sheet_reader.specs.Sides.{Around, stand_in, Fits, inside, in_row, ReadsTerm, ReadsRow};
 
 use super::{Room, SideReader, Whole};
-use crate::taking::{misplaced, next};
+use crate::taking::{is_mark, misplaced, next};
 use lexer::token::{Lexeme, Lexer, Name, Token};
 use reading::fault::{SheetFault, TextFault};
 use reading::token::{At, Mark};
-
-// Whether a token is '('.
-fn is_opening(token: Token) -> bool
-    ensures { result ≡ is_mark Opening (meaning token.entry) }
-{
-    matches!(token, Token::Mark(Mark::Opening))
-}
 
 // '(' behind the operator at a place.
 fn open<'t>(lexer: &mut Lexer<'t>, at: At) -> Result<(), SheetFault>
@@ -28,7 +19,7 @@ fn open<'t>(lexer: &mut Lexer<'t>, at: At) -> Result<(), SheetFault>
     let Some(lexeme) = lexer.next_token() else {
         return Err(TextFault::WrongArity(at).into());
     };
-    if is_opening(lexeme.token) {
+    if is_mark(lexeme.token, Mark::Opening) {
         Ok(())
     } else {
         Err(lexeme.fault_or(TextFault::WrongArity(at)).into())

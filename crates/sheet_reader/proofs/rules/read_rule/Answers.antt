@@ -5,14 +5,14 @@ use Rattle.sheet.specs.Sheet.{rules_of}
 use Rattle.sheet.specs.Rules.{rule_between}
 use Rattle.sheet_reader.specs.Progress.{Reached, Meets}
 use Rattle.sheet_reader.specs.Rules.{next_rule}
-use Rattle.sheet_reader.proofs.Progress.{good, passed_on}
+use Rattle.sheet_reader.proofs.Progress.{good, gave_up}
 use Rattle.sheet_reader.proofs.Storing.{is_rule, few_before, left_laid, right_laid, stored}
 use Rattle.sheet_reader.proofs.rules.read_rule.Goals as goal
 
 pub returns-in_err-sides-clause-goes : goal.returns-in_err-sides-clause-goes
 returns-in_err-sides-clause-goes c b grid m =
     let n = subst (λ s. Meets b (next_rule s grid (rules_of c.args.sheet.now)) c.args.lexeme c.args.lexer.now) (sym c.signature.ensures) m in
-    passed_on b c.read_sides.result c.from_residual.result c.in_err-sides.field-0.0 _ _ (c.read_sides.ensures b grid (rules_of c.args.sheet.now) (sym c.len.ensures.value) n) c.in_err-sides.was c.from_residual.ensures.1
+    gave_up b c.from_residual.result _ (c.in_err-sides.ensures b grid (rules_of c.args.sheet.now) (sym c.len.ensures.value) n) c.from_residual.ensures.1
 
 pub new-requires : goal.new-requires
 new-requires c =

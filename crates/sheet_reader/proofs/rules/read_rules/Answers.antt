@@ -1,6 +1,6 @@
 use Rattle.std.proofs.Common.{◌∙◌, refl, arith}
 use Rattle.sheet_reader.specs.Rules.{behind_rules}
-use Rattle.sheet_reader.proofs.Progress.{met, ends, passed_on}
+use Rattle.sheet_reader.proofs.Progress.{met, ends, gave_up}
 use Rattle.sheet_reader.proofs.rules.read_rules.Goals as goal
 
 pub loop-lexeme-init : goal.loop-lexeme-init
@@ -26,9 +26,9 @@ returns-in_err-read_rule-clause-operators c = c.in_err-read_rule.ensures.operato
 
 pub returns-in_err-read_rule-clause-goes : goal.returns-in_err-read_rule-clause-goes
 returns-in_err-read_rule-clause-goes c b grid r e =
-    passed_on b c.read_rule.result c.from_residual.result c.in_err-read_rule.field-0.0 _ _
-    (c.read_rule.ensures.goes b grid (met b (behind_rules c.loop-lexeme.sheet grid) c.loop-lexeme.lexer c.in-Some.lexeme c.next_token.new.self (c.loop-lexeme.invariant.going b grid r) c.in-Some.ensures))
-    c.in_err-read_rule.was c.from_residual.ensures.1
+    gave_up b c.from_residual.result _
+    (c.in_err-read_rule.ensures.goes b grid (met b (behind_rules c.loop-lexeme.sheet grid) c.loop-lexeme.lexer c.in-Some.lexeme c.next_token.new.self (c.loop-lexeme.invariant.going b grid r) c.in-Some.ensures))
+    c.from_residual.ensures.1
 
 pub returns-clause-operators : goal.returns-clause-operators
 returns-clause-operators c = c.loop-lexeme.invariant.over

@@ -3,12 +3,12 @@ use Rattle.sheet_reading.specs.Reading.{in_rule, behind_side}
 use Rattle.reading.specs.Reading.{has, top}
 use Rattle.sheet_reader.specs.Progress.{Wants}
 use Rattle.sheet_reader.specs.Rules.{outermost}
-use Rattle.sheet_reader.proofs.Progress.{passed_on, goes_map}
+use Rattle.sheet_reader.proofs.Progress.{gave_up, goes_map}
 use Rattle.sheet_reader.proofs.Storing.{side_ends, early, side_read}
 use Rattle.sheet_reader.proofs.rules.read_side.Goals as goal
 
 pub returns-in_err-read : goal.returns-in_err-read
-returns-in_err-read c b sig grid rules d ends f m = passed_on b c.term.result c.from_residual.result c.in_err-read.field-0.0 _ _ (c.term.ensures.reads b (outermost sig grid rules d) f m) c.in_err-read.was c.from_residual.ensures.1
+returns-in_err-read c b sig grid rules d ends f m = gave_up b c.from_residual.result _ (c.in_err-read.ensures.reads b (outermost sig grid rules d) f m) c.from_residual.ensures.1
 
 pub returns : goal.returns
 returns c b sig grid rules d ends f m =

@@ -4,7 +4,7 @@ use Rattle.reading.specs.Reading.{top, wants}
 use Rattle.sheet_reading.specs.Sides.{on_left, on_right}
 use Rattle.sheet_reading.specs.Reading.{in_rule}
 use Rattle.sheet_reader.specs.Rules.{outermost}
-use Rattle.sheet_reader.proofs.Progress.{passed_on}
+use Rattle.sheet_reader.proofs.Progress.{gave_up}
 use Rattle.sheet_reader.proofs.rules.read_sides.Goals as goal
 
 pub returns-in_err-read_side : goal.returns-in_err-read_side
@@ -12,7 +12,7 @@ returns-in_err-read_side c b grid before e m =
     let sig = sig_of c.args.signature.now in
     let room = c.of_side-room.result in
     let f = c.left-left.ensures room (outermost sig grid before on_left) refl refl refl (c.of_side-room.ensures (outermost sig grid before on_left) e refl) in
-    passed_on b c.read_side.result c.from_residual.result c.in_err-read_side.field-0.0 _ _ (c.read_side.ensures b sig grid before on_left refl f m) c.in_err-read_side.was c.from_residual.ensures.1
+    gave_up b c.from_residual.result _ (c.in_err-read_side.ensures b sig grid before on_left refl f m) c.from_residual.ensures.1
 
 pub returns-in_err-first : goal.returns-in_err-first
 returns-in_err-first c b grid before e m =
@@ -20,7 +20,7 @@ returns-in_err-first c b grid before e m =
     let room = c.of_side-room.result in
     let f = c.left-left.ensures room (outermost sig grid before on_left) refl refl refl (c.of_side-room.ensures (outermost sig grid before on_left) e refl) in
     let z = c.in_ok-read_side.ensures b sig grid before on_left refl f m in
-    passed_on b c.next.result c.from_residual-in_err-first.result c.in_err-first.field-0.0 _ _ (c.next.ensures.reading b (in_rule sig grid before (on_right z.side) (wants top)) (λ at. refl) z.goes_on) c.in_err-first.was c.from_residual-in_err-first.ensures.1
+    gave_up b c.from_residual-in_err-first.result _ (c.in_err-first.ensures.reading b (in_rule sig grid before (on_right z.side) (wants top)) (λ at. refl) z.goes_on) c.from_residual-in_err-first.ensures.1
 
 pub returns-in_err-read_side-2 : goal.returns-in_err-read_side-2
 returns-in_err-read_side-2 c b grid before e m =
@@ -31,7 +31,7 @@ returns-in_err-read_side-2 c b grid before e m =
     let n = c.in_ok-first.ensures.reading b (in_rule sig grid before (on_right z.side) (wants top)) (λ at. refl) z.goes_on in
     let i = outermost sig grid before (on_right z.side) in
     let g = c.right-right.ensures room i z.side (ap (λ s. sig_of s.now) z.signature ∙ f.operators) z.marked refl refl (c.of_side-room.ensures i e refl) in
-    passed_on b c.read_side-2.result c.from_residual-in_err-read_side-2.result c.in_err-read_side-2.field-0.0 _ _ (c.read_side-2.ensures b sig grid before (on_right z.side) refl g n) c.in_err-read_side-2.was c.from_residual-in_err-read_side-2.ensures.1
+    gave_up b c.from_residual-in_err-read_side-2.result _ (c.in_err-read_side-2.ensures b sig grid before (on_right z.side) refl g n) c.from_residual-in_err-read_side-2.ensures.1
 
 pub returns : goal.returns
 returns c b grid before e m =

@@ -1,10 +1,10 @@
 use Rattle.std.proofs.Common.{ap, sym, ◌∙◌}
-use Rattle.sheet_reader.proofs.Progress.{passed_on, came, came_not}
+use Rattle.sheet_reader.proofs.Progress.{gave_up, came, came_not}
 use Rattle.reading.specs.declared.fault.SheetFault.TheVariants.{Text}
 use Rattle.sheet_reader.proofs.taking.expect.Goals as goal
 
 pub returns-in_err-lexeme : goal.returns-in_err-lexeme
-returns-in_err-lexeme c b s u h w r = passed_on b c.next.result c.from_residual.result c.in_err-lexeme.field-0.0 _ _ (c.next.ensures.reading b s h r) c.in_err-lexeme.was c.from_residual.ensures.1
+returns-in_err-lexeme c b s u h w r = gave_up b c.from_residual.result _ (c.in_err-lexeme.ensures.reading b s h r) c.from_residual.ensures.1
 
 pub returns-then-is_mark : goal.returns-then-is_mark
 returns-then-is_mark c b s u h w r = came b s u c.args.bare c.args.mark w c.in_ok-lexeme.lexeme c.next.new.lexer (c.in_ok-lexeme.ensures.reading b s h r) (sym c.if-is_mark.ensures)

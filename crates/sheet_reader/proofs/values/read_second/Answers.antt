@@ -3,9 +3,9 @@ use Rattle.signature.specs.Declaring.{sig_of}
 use Rattle.sheet_reading.specs.Reading.{has_word, rules_may_come}
 use Rattle.sheet_reader.specs.Progress.{Reached}
 use Rattle.sheet_reader.specs.Weighings.{Weighs}
-use Rattle.sheet_reader.proofs.Progress.{passed_on}
+use Rattle.sheet_reader.proofs.Progress.{gave_up, goes_map}
 use Rattle.sheet_reader.proofs.Cells.{weighs_missing, weighs_closed}
-use Rattle.sheet_reader.proofs.Lines.{goes_on, not_taken, weighing_begun}
+use Rattle.sheet_reader.proofs.Lines.{not_taken, weighing_begun}
 use Rattle.sheet_reader.proofs.values.read_second.Goals as goal
 
 pub returns-then-take_word : goal.returns-then-take_word
@@ -21,12 +21,12 @@ pub returns-in_err-read_weighing : goal.returns-in_err-read_weighing
 returns-in_err-read_weighing c b grid n missing at =
     let here = not_taken c.if-take_word.ensures at in
     let begun = weighing_begun 4 c.args.second.now missing n refl (omega arith) here.0 in
-    passed_on b _ _ _ _ _ (c.read_weighing.ensures b 4 grid begun here.1) c.in_err-read_weighing.was c.from_residual.ensures.1
+    gave_up b _ _ (c.in_err-read_weighing.ensures b 4 grid begun here.1) c.from_residual.ensures.1
 
 pub returns : goal.returns
 returns c b grid n missing at =
     let here = not_taken c.if-take_word.ensures at in
     let begun = weighing_begun 4 c.args.second.now missing n refl (omega arith) here.0 in
     let read = c.in_ok-read_weighing.ensures b 4 grid begun here.1 in
-    goes_on b c.read_word.result _ _ (c.read_word.ensures b (sig_of c.args.signature.now) (grid ++ read.0) read.1.lines read.1.reached)
-    (λ u r. (read.0, r, weighs_closed c.read_weighing.new.weighing (grid ++ read.0) 4 read.1.weighs))
+    goes_map b c.read_word.result _ _ (λ u r. (read.0, r, weighs_closed c.read_weighing.new.weighing (grid ++ read.0) 4 read.1.weighs))
+    (c.read_word.ensures b (sig_of c.args.signature.now) (grid ++ read.0) read.1.lines read.1.reached)

@@ -3,7 +3,7 @@ use Rattle.terms.specs.Signature.{Sig, op_of}
 use Rattle.signature.specs.Declaring.{sig_of}
 use Rattle.sheet_reading.specs.Values.{range_in}
 use Rattle.weighing.specs.Weighing.{PutsBase, PutsFactor}
-use Rattle.sheet_reader.proofs.Progress.{passed_on}
+use Rattle.sheet_reader.proofs.Progress.{gave_up}
 use Rattle.sheet_reader.proofs.Lines.{awaits, value_done}
 use Rattle.sheet_reader.proofs.values.read_value.Goals as goal
 
@@ -14,7 +14,7 @@ factor_range sig n f g arity at is = ap (λ k. range_in (suc n) (op_of sig k).ar
 pub returns-in_err-base-in-None : goal.returns-in_err-base-in-None
 returns-in_err-base-in-None c b from grid vs at h comes =
     let first : c.args.line ≡ 0 = omega (arith, c.in-None.ensures) in
-    passed_on b _ _ _ _ _ (c.read_number.ensures.value b (sig_of c.args.signature.now) grid vs (awaits h refl comes c.requires.line first refl)) c.in_err-base-in-None.was c.from_residual.ensures.1
+    gave_up b _ _ (c.in_err-base-in-None.ensures.value b (sig_of c.args.signature.now) grid vs (awaits h refl comes c.requires.line first refl)) c.from_residual.ensures.1
 
 pub returns-in_ok-base-in-None : goal.returns-in_ok-base-in-None
 returns-in_ok-base-in-None c b from grid vs at h comes =
@@ -29,7 +29,7 @@ returns-in_err-factor-in-Some c b from grid vs at h comes =
     let sig = sig_of c.args.signature.now in
     let its : c.args.line ≡ suc c.in-Some.argument = omega (arith, c.in-Some.ensures) in
     let range = factor_range sig c.in-Some.argument (length vs) c.args.operator c.arity.result at c.arity.ensures.value in
-    passed_on b _ _ _ _ _ (c.read_factor.ensures.value b sig grid vs (awaits h refl comes c.requires.line its range)) c.in_err-factor-in-Some.was c.from_residual-in_err-factor-in-Some.ensures.1
+    gave_up b _ _ (c.in_err-factor-in-Some.ensures.value b sig grid vs (awaits h refl comes c.requires.line its range)) c.from_residual-in_err-factor-in-Some.ensures.1
 
 pub returns-in_ok-factor-in-Some : goal.returns-in_ok-factor-in-Some
 returns-in_ok-factor-in-Some c b from grid vs at h comes =

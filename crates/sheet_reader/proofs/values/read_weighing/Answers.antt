@@ -2,7 +2,7 @@ use Rattle.std.proofs.Common.{◌≡◌, ℕ, [], ◌++◌, subst, arith}
 use Rattle.signature.specs.Declaring.{sig_of}
 use Rattle.sheet_reading.specs.Reading.{wants_value}
 use Rattle.sheet_reader.specs.Values.{InWeighing}
-use Rattle.sheet_reader.proofs.Progress.{passed_on}
+use Rattle.sheet_reader.proofs.Progress.{gave_up}
 use Rattle.sheet_reader.proofs.Lines.{no_lines, line_more}
 use Rattle.sheet_reader.proofs.values.read_weighing.Goals as goal
 
@@ -12,7 +12,7 @@ loop-line-init c b from grid h comes = no_lines h comes
 pub returns-in_err-read_line : goal.returns-in_err-read_line
 returns-in_err-read_line c b from grid h comes =
     let x = c.loop-line.invariant b from grid h comes in
-    passed_on b _ _ _ _ _ (c.read_line.ensures b from (grid ++ x.more) x.here (x.comes c.loop-line-test.true)) c.in_err-read_line.was c.from_residual.ensures.1
+    gave_up b _ _ (c.in_err-read_line.ensures b from (grid ++ x.more) x.here (x.comes c.loop-line-test.true)) c.from_residual.ensures.1
 
 pub loop-line-preserved : goal.loop-line-preserved
 loop-line-preserved c b from grid h comes =

@@ -10,8 +10,8 @@ nothing : (r : Option ℕ) → false ≡ is_some r → r ≡ None
 nothing None e = refl
 nothing (Some f) e = absurd (false≢true e)
 
-pub invariant_of-self : goal.invariant_of-self
-invariant_of-self c =
+pub invariant_of-self-clause-declared : goal.invariant_of-self-clause-declared
+invariant_of-self-clause-declared c =
     let s = c.args.self.now in
     let unfound = sym c.find.ensures ∙ nothing c.find.result c.if-is_some.ensures in
-    record { declared = declared_more c.push.result (items s.operators) (items c.push.new.self) c.named.result c.args.name.now c.push.ensures.last c.push.ensures.full (grind (arith, nat_tests)) c.named.ensures (sym c.if-not-is_name.ensures) unfound s.declared }
+    declared_more c.push.result (items s.operators) (items c.push.new.self) c.named.result c.args.name.now c.push.ensures.last c.push.ensures.full (grind (arith, nat_tests)) c.named.ensures (sym c.if-not-is_name.ensures) unfound s.declared

@@ -4,8 +4,9 @@ use Rattle.terms.specs.Term.{apply, nil}
 use Rattle.reading.specs.declared.fault.SheetFault.TheVariants.{Text}
 use Rattle.reading.specs.Reading.{within, wants, has, named, and_then}
 use Rattle.sheet_reader.specs.Sides.{stand_in, inside, in_row}
-use Rattle.sheet_reader.proofs.Nested.{gave_up, begins_none, begun_taken, begun_refused, leaf_read, of_eight, bare_read, opens_there, head_fits, nested_read}
-use Rattle.sheet_reader.proofs.Rows.{goes_then, wants_early, has_early, behind_taken, behind_refused, last_read, next_fits, more_read}
+use Rattle.sheet_reader.proofs.Progress.{gave_up, goes_map}
+use Rattle.sheet_reader.proofs.Nested.{begins_none, begun_taken, begun_refused, leaf_read, of_eight, bare_read, opens_there, head_fits, nested_read}
+use Rattle.sheet_reader.proofs.Rows.{wants_early, has_early, behind_taken, behind_refused, last_read, next_fits, more_read}
 use Rattle.sheet_reader.proofs.side.SideReader.+terms.Goals as goal
 
 pub term-returns-in-Instrument-clause-reads : goal.term-returns-in-Instrument-clause-reads
@@ -97,4 +98,4 @@ arguments-returns-clause-reads t c = λ b i f ts h g.
     let e = c.in_ok-fewer.ensures w.term f ts i.context ∙ ap (λ o. Ok (in_row f c.args.at (and_then ts w.term) o i.context)) c.in-Some.is in
     let there = behind_taken i n (wants (within f c.args.at (and_then ts w.term) c.in-Some.fewer i.context)) e in
     let fits = next_fits i w c.link.new.self c.len-root.ensures.value c.len.ensures.value c.link.ensures c.in-Some.fewer h in
-    goes_then b c.arguments.result _ _ (λ spare. more_read i w c.link.new.self c.len-root.ensures.value c.len.ensures.value c.link.ensures) (c.arguments.ensures.reads b i f (and_then ts w.term) fits there)
+    goes_map b c.arguments.result _ _ (λ spare. more_read i w c.link.new.self c.len-root.ensures.value c.len.ensures.value c.link.ensures) (c.arguments.ensures.reads b i f (and_then ts w.term) fits there)

@@ -1,0 +1,6 @@
+pub mod Cases
+pub mod Reducing
+pub mod Keeping
+pub mod Whole
+pub mod Following
+pub mod Admitting

@@ -1,0 +1,9 @@
+pub mod Refusals
+pub mod Machine
+pub mod Reducing
+pub mod Calls
+pub mod Admission
+pub mod Whole
+pub mod Following
+pub mod Laws
+pub mod Cases
