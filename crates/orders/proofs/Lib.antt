@@ -1,4 +1,6 @@
 pub mod Sums
 pub mod Bounds
+pub mod Worked
+pub mod Grids
 pub mod Sides
 pub mod Interpreting

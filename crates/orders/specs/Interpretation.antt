@@ -3,7 +3,7 @@ use Rattle.std.specs.Prelude.{◌≡◌, ℕ, ◌<◌, ◌≤◌, List, length, 
 use Rattle.terms.specs.Term.{Term, Terms, symbols, symbols_in}
 use Rattle.terms.specs.Rule.{Rule, levels, levels_in}
 use Rattle.terms.specs.View.{Answers, Stands, StandFrom}
-use Rattle.sheet.specs.Rules.{rule_at}
+use Rattle.rewriting.specs.Rules.{rule_at}
 use Rattle.orders.specs.declared.weight.Weight.{Weight}
 use Rattle.orders.specs.declared.linear.Interpretation.{Interpretation}
 use Rattle.orders.specs.Linear.{Linear, linear_of, values, coefficient, one_at, baseless}

@@ -5,3 +5,6 @@ pub mod PairLaws
 pub mod LinearLaws
 pub mod Weights
 pub mod Interpretation
+pub mod Default
+pub mod Cases
+pub mod Laws

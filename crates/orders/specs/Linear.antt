@@ -1,8 +1,8 @@
 -- Linear interpretations of operators: the weight of a ticket, and the constant and the coefficients of a term with variables.
-use Rattle.std.specs.Prelude.{ℕ, suc, ◌+◌, ◌*◌, ◌<◌, ◌≤◌, cond, ◌==◌, Some, None}
+use Rattle.std.specs.Prelude.{ℕ, suc, ◌+◌, ◌*◌, ◌<◌, ◌≤◌, cond, ◌==◌, Some, None, nat_lt}
 use Rattle.terms.specs.Term.{Term, variable, instrument, apply, Terms, nil, cons}
 use Rattle.terms.specs.Rule.{Rule}
-use Rattle.sheet_reading.specs.Values.{Value}
+use Rattle.sheet_reading.specs.Values.{Value, Grid, cell}
 use Rattle.weighing.specs.declared.Weighing.{Weighing}
 use Rattle.weighing.specs.Weighing.{times, value_at}
 
@@ -71,3 +71,7 @@ linear_from values = record { base = λ f. base_in (values 0 f); factor = λ f k
 -- the interpretation that a weighing gives
 abbrev pub linear_of : Weighing → Linear
 linear_of w = linear_from (value_at w)
+
+-- and the one that the lines of values of a sheet give from one on, of which the first gives the bases and the next three the factors
+abbrev pub linear_in : Grid → ℕ → Linear
+linear_in grid from = linear_from (λ line f. cond (nat_lt line 4) (cell grid (from + line) f) (Some 1))

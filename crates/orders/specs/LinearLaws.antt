@@ -135,7 +135,7 @@ module _ (m : Linear) (positive : (f k : ℕ) → 1 ≤ m.factor f k) (sig : Sig
   }
 
 -- the factors of a weighing are none of them 0
-in_line : (P : Value → Type 0) (line : ℕ) (rows : List Row) (f : ℕ) → ((r : Row) → P (entry_of r line)) → P (neutral_in line) → P (get_or (map (λ (r : Row). entry_of r line) rows) f (neutral_in line))
+pub in_line : (P : Value → Type 0) (line : ℕ) (rows : List Row) (f : ℕ) → ((r : Row) → P (entry_of r line)) → P (neutral_in line) → P (get_or (map (λ (r : Row). entry_of r line) rows) f (neutral_in line))
 in_line P line [] f rows neutral = neutral
 in_line P line (r ∷ rs) zero rows neutral = rows r
 in_line P line (r ∷ rs) (suc f) rows neutral = in_line P line rs f rows neutral

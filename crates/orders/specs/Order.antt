@@ -1,7 +1,7 @@
 -- What an order answers about the rules of a sheet.
 use Rattle.std.specs.Prelude.{ℕ, ◌<◌, List, length}
 use Rattle.terms.specs.Rule.{Rule}
-use Rattle.sheet.specs.Rules.{rule_at}
+use Rattle.rewriting.specs.Rules.{rule_at}
 use Rattle.orders.specs.declared.order.Orientation.{Orientation}
 use Rattle.orders.specs.declared.order.Orientation.TheVariants.{Strict, Weak, Neither}
 

@@ -1,11 +1,13 @@
 ghost use Rattle.std.specs.Prelude.{◌≡◌};
+ghost use Rattle.sheet.specs.Sheet.{rules_of};
+ghost use Rattle.orders.specs.Default.{DefaultOrientation};
 ghost use Rattle.orders.specs.Interpretation.{meaning};
 ghost use Rattle.orders.specs.Lexicographic.{Then, ThenOf};
 ghost use Rattle.orders.specs.Linear.{linear_of};
 ghost use Rattle.orders.specs.PairLaws.{then_laws};
 
 use crate::linear::Interpretation;
-use crate::order::Order;
+use crate::order::{Order, Orientation, orientation_of};
 use rewriting::order::ReductionOrder;
 use sheet::Sheet;
 use weighing::Weighing;
@@ -41,7 +43,7 @@ impl<A: Order, B: Order> Order for Lexicographic<A, B> {
     }
 }
 
-// The order by two weighings, the first before the second.
+// The order by a sheet's first weighing, and then by its second.
 pub type DefaultOrder<'w> = Lexicographic<Interpretation<'w>, Interpretation<'w>>;
 
 // The default order of a sheet with these weighings.
@@ -53,4 +55,16 @@ pub fn default_order<'w>(first: &'w Weighing, second: &'w Weighing) -> DefaultOr
         first: Interpretation::of(first),
         second: Interpretation::of(second),
     }
+}
+
+// How the default order orients the rule of a number; neither way if there is none.
+pub fn default_orientation(
+    first: &Weighing,
+    second: &Weighing,
+    sheet: &Sheet,
+    rule: usize,
+) -> Orientation
+    ensures { DefaultOrientation (linear_of first.now) (linear_of second.now) (rules_of sheet.now) rule result }
+{
+    orientation_of(&default_order(first, second), sheet, rule)
 }

@@ -1,7 +1,7 @@
 use Rattle.std.proofs.Common.{subst, ap, ◌∙◌}
 use Rattle.terms.specs.Rule.{Rule}
 use Rattle.sheet.specs.Sheet.{operators_of, rules_of}
-use Rattle.sheet.specs.Rules.{rule_at}
+use Rattle.rewriting.specs.Rules.{rule_at}
 use Rattle.orders.specs.Linear.{linear_of}
 use Rattle.orders.specs.Weights.{Weighs}
 use Rattle.orders.proofs.Sides.{eight_variables}
