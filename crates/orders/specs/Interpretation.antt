@@ -10,7 +10,7 @@ use Rattle.orders.specs.Linear.{Linear, linear_of, values, coefficient, one_at, 
 use Rattle.orders.specs.Weights.{coefficient_in, Weighs}
 
 abbrev pub meaning : Interpretation → Linear
-meaning o = linear_of o.weighing.now
+meaning o = linear_of o.weighing
 
 -- the weights of both sides of a rule, whose right side has no variable past the eighth
 pub record WeighsSides (m : Linear) (r : Rule) (w : Weight × Weight) : Type 0 where

@@ -44,10 +44,10 @@ impl<A: Order, B: Order> Order for Lexicographic<A, B> {
 }
 
 // The order by a sheet's first weighing, and then by its second.
-pub type DefaultOrder<'w> = Lexicographic<Interpretation<'w>, Interpretation<'w>>;
+pub type DefaultOrder = Lexicographic<Interpretation, Interpretation>;
 
 // The default order of a sheet with these weighings.
-pub fn default_order<'w>(first: &'w Weighing, second: &'w Weighing) -> DefaultOrder<'w>
+pub fn default_order(first: &Weighing, second: &Weighing) -> DefaultOrder
     ensures first { meaning result.first ≡ linear_of first.now }
     ensures second { meaning result.second ≡ linear_of second.now }
 {

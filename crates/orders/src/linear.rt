@@ -22,15 +22,17 @@ const LEVELS: u8 = 16;
 
 // The linear interpretation that a weighing gives.
 #[derive(Clone, Copy)]
-pub struct Interpretation<'w> {
-    weighing: &'w Weighing,
+pub struct Interpretation {
+    weighing: Weighing,
 }
 
-impl<'w> Interpretation<'w> {
-    pub fn of(weighing: &'w Weighing) -> Interpretation<'w>
+impl Interpretation {
+    pub fn of(weighing: &Weighing) -> Interpretation
         ensures { meaning result ≡ linear_of weighing.now }
     {
-        Interpretation { weighing }
+        Interpretation {
+            weighing: *weighing,
+        }
     }
 
     // The constant and the coefficients of a side.
@@ -83,7 +85,7 @@ impl<'w> Interpretation<'w> {
     }
 }
 
-impl<'w> ReductionOrder for Interpretation<'w> {
+impl ReductionOrder for Interpretation {
     ghost greater = { λ o. Heavier (meaning o) };
 
     ghost at_least = { λ o. AsHeavy (meaning o) };
@@ -92,10 +94,10 @@ impl<'w> ReductionOrder for Interpretation<'w> {
 
     ghost weak = { λ o. WeaklyOriented (meaning o) };
 
-    ghost laws = { λ o sig h. linear_laws (meaning o) (positive o.weighing.now) sig };
+    ghost laws = { λ o sig h. linear_laws (meaning o) (positive o.weighing) sig };
 }
 
-impl<'w> Order for Interpretation<'w> {
+impl Order for Interpretation {
     fn is_strict(&self, sheet: &Sheet, rule: usize) -> bool {
         let Some((left, right)) = self.weigh_rule(sheet, rule) else {
             return false;

@@ -9,7 +9,7 @@ use Rattle.orders.proofs.linear.Interpretation.weigh_rule.Goals as goal
 
 pub returns : goal.returns
 returns c =
-    let m = linear_of c.args.self.now.weighing.now in
+    let m = linear_of c.args.self.now.weighing in
     let sheet = c.args.sheet.now in
     let (known, is) = c.in_ok-rule.ensures.value in (
       known,
