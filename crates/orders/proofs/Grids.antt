@@ -1,8 +1,8 @@
 -- The interpretation that lines of values give.
-use Rattle.std.proofs.Common.{◌≡◌, ℕ, zero, suc, ◌+◌, ◌<◌, ◌≤◌, map, Some, cond, ltb, get_or, inl, inr, ap, ◌∙◌, sym, refl, arith}
+use Rattle.std.proofs.Common.{◌≡◌, ℕ, zero, suc, ◌+◌, ◌≤◌, map, Some, cond, ltb, inl, inr, ap, ◌∙◌, sym, refl, arith}
 use Rattle.std.proofs.lemmas.Bool.{cond-true, cond-false, cases_lt, lt-ltb, le-ltb}
 use Rattle.std.proofs.lemmas.List.{get_or_past, length-map}
-use Rattle.sheet_reading.specs.Values.{Value, Grid, cell}
+use Rattle.sheet_reading.specs.Values.{cell}
 use Rattle.weighing.specs.declared.Weighing.{Weighing}
 use Rattle.weighing.specs.Weighing.{value_at, written}
 use Rattle.orders.specs.Linear.{linear_from}
@@ -18,6 +18,6 @@ lines_interpret w grid from has = ap linear_from (λ i line f. same line f i)
   where
     same : (line f : ℕ) → value_at w line f ≡ cond (ltb line 4) (cell grid (from + line) f) (Some 1)
     same line f = elim (cases_lt line 4) [
-        | inl l ↦ has line f l ∙ sym (cond-true (ltb line 4) (cell grid (from + line) f) (Some 1) (lt-ltb line 4 l))
-        | inr l ↦ past_lines w line f l ∙ sym (cond-false (ltb line 4) (cell grid (from + line) f) (Some 1) (le-ltb line 4 l))
-      ]
+      | inl l ↦ has line f l ∙ sym (cond-true (ltb line 4) (cell grid (from + line) f) (Some 1) (lt-ltb line 4 l))
+      | inr l ↦ past_lines w line f l ∙ sym (cond-false (ltb line 4) (cell grid (from + line) f) (Some 1) (le-ltb line 4 l))
+    ]

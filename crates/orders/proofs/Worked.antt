@@ -1,8 +1,7 @@
 -- The worked cases hold.
-use Rattle.std.proofs.Common.{◌≡◌, ℕ, zero, suc, ◌+◌, ◌*◌, ◌<◌, ◌≤◌, ◌++◌, [], ◌∷◌, length, refl, inl, inr, arith}
-use Rattle.rewriting.specs.Rules.{rule_at}
+use Rattle.std.proofs.Common.{zero, suc, ◌++◌, refl, inl, inr, arith}
 use Rattle.rewriting.specs.Order.{AllIn}
-use Rattle.sheet_reading.specs.Cases.{house_values, house_rules}
+use Rattle.sheet_reading.specs.Cases.{house_rules}
 use Rattle.orders.specs.Linear.{StrictlyOriented, WeaklyOriented}
 use Rattle.orders.specs.Cases.{house, exchange, unary, names, shifting_rules, falling_rules, Strict, Worked}
 

@@ -1,11 +1,11 @@
 -- Worked cases: weights, constants and coefficients, and which rules of some sheets are oriented.
-use Rattle.std.specs.Prelude.{◌≡◌, ℕ, ◌+◌, List, [], ◌∷◌, ◌++◌, Some, None}
+use Rattle.std.specs.Prelude.{◌≡◌, ℕ, List, [], ◌∷◌, ◌++◌, Some, None}
 use Rattle.terms.specs.Term.{Term, instrument, apply, nil, cons}
 use Rattle.terms.specs.Rule.{Rule}
 use Rattle.rewriting.specs.Rules.{rule_at}
 use Rattle.rewriting.specs.Order.{AllIn}
 use Rattle.sheet_reading.specs.Values.{Value, Grid}
-use Rattle.sheet_reading.specs.Cases.{house_values, house_rules, none, neg, both, A, B, C}
+use Rattle.sheet_reading.specs.Cases.{house_values, house_rules, neg, both, A, B}
 use Rattle.orders.specs.Linear.{Linear, linear_in, weight, constant, coefficient, WeaklyOriented, StrictlyOriented}
 use Rattle.orders.specs.Default.{DefaultStrict, DefaultWeak}
 

@@ -6,5 +6,6 @@ pub mod LinearLaws
 pub mod Weights
 pub mod Interpretation
 pub mod Default
+pub mod DefaultOrder
 pub mod Cases
 pub mod Laws

@@ -1,13 +1,10 @@
-ghost use Rattle.std.specs.Prelude.{◌≡◌};
-ghost use Rattle.sheet.specs.Sheet.{rules_of};
-ghost use Rattle.orders.specs.Default.{DefaultOrientation};
-ghost use Rattle.orders.specs.Interpretation.{meaning};
+ghost use Rattle.orders.specs.DefaultOrder.{IsDefault};
 ghost use Rattle.orders.specs.Lexicographic.{Then, ThenOf};
 ghost use Rattle.orders.specs.Linear.{linear_of};
 ghost use Rattle.orders.specs.PairLaws.{then_laws};
 
 use crate::linear::Interpretation;
-use crate::order::{Order, Orientation, orientation_of};
+use crate::order::Order;
 use rewriting::order::ReductionOrder;
 use sheet::Sheet;
 use weighing::Weighing;
@@ -48,23 +45,10 @@ pub type DefaultOrder = Lexicographic<Interpretation, Interpretation>;
 
 // The default order of a sheet with these weighings.
 pub fn default_order(first: &Weighing, second: &Weighing) -> DefaultOrder
-    ensures first { meaning result.first ≡ linear_of first.now }
-    ensures second { meaning result.second ≡ linear_of second.now }
+    ensures { IsDefault (linear_of first.now) (linear_of second.now) result }
 {
     Lexicographic {
         first: Interpretation::of(first),
         second: Interpretation::of(second),
     }
-}
-
-// How the default order orients the rule of a number; neither way if there is none.
-pub fn default_orientation(
-    first: &Weighing,
-    second: &Weighing,
-    sheet: &Sheet,
-    rule: usize,
-) -> Orientation
-    ensures { DefaultOrientation (linear_of first.now) (linear_of second.now) (rules_of sheet.now) rule result }
-{
-    orientation_of(&default_order(first, second), sheet, rule)
 }
