@@ -9,7 +9,7 @@ use Rattle.orders.specs.Linear.{linear_from}
 use Rattle.orders.specs.LinearLaws.{in_line}
 use Rattle.orders.specs.Laws.{LinesInterpret}
 
-past_lines : (w : Weighing) (line f : ℕ) → 4 ≤ line → value_at w line f ≡ Some 1
+pub past_lines : (w : Weighing) (line f : ℕ) → 4 ≤ line → value_at w line f ≡ Some 1
 past_lines w zero f h = absurd (omega arith)
 past_lines w (suc k) f h = in_line (λ v. v ≡ Some 1) (suc k) w.rows f (λ r. get_or_past (map written r.factors) k (Some 1) (omega (arith, length-map r.factors written, r.three))) refl
 
