@@ -6,8 +6,7 @@ use Rattle.orders.specs.declared.lexicographic.Lexicographic.{Lexicographic}
 use Rattle.orders.specs.declared.linear.Interpretation.{Interpretation}
 use Rattle.orders.specs.Linear.{Linear}
 use Rattle.orders.specs.Interpretation.{meaning}
-use Rattle.orders.specs.Default.{DefaultStrict, DefaultWeak}
-use Rattle.orders.specs.DefaultOrder.{IsDefault}
+use Rattle.orders.specs.Default.{DefaultStrict, DefaultWeak, IsDefault}
 use Rattle.orders.specs.Order.{Orients}
 
 -- what the default order answers, by the interpretations that it is made of

@@ -10,8 +10,9 @@ use Rattle.weighing.specs.declared.Weighing.{Weighing}
 use Rattle.orders.specs.declared.weight.Weight.{Weight}
 use Rattle.orders.specs.Linear.{Linear, linear_of, value, values, one_at, baseless}
 use Rattle.orders.specs.LinearLaws.{factors_within, bases_within}
-use Rattle.orders.specs.Interpretation.{LowTerm, LowRow, WeighsRow}
-use Rattle.orders.specs.Weights.{coefficient_in, Weighs, AddsUp, Sums}
+use Rattle.orders.specs.Walking.{LowTerm, LowRow, WeighsRow}
+use Rattle.orders.specs.Weights.{coefficient_in, Weighs}
+use Rattle.orders.specs.Adding.{AddsUp, Sums}
 use Rattle.orders.proofs.Bounds.{Small, cap, value_within, values_within}
 
 pub small_of : (w : Weighing) → Small (linear_of w)

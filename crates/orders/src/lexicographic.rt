@@ -1,4 +1,4 @@
-ghost use Rattle.orders.specs.DefaultOrder.{IsDefault};
+ghost use Rattle.orders.specs.Default.{IsDefault};
 ghost use Rattle.orders.specs.Lexicographic.{Then, ThenOf};
 ghost use Rattle.orders.specs.Linear.{linear_of};
 ghost use Rattle.orders.specs.PairLaws.{then_laws};

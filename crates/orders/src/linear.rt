@@ -5,7 +5,8 @@ ghost use Rattle.sheet.specs.Sheet.{rules_of};
 ghost use Rattle.sheet.specs.Sides.{side_of, side_answers};
 ghost use Rattle.orders.specs.Linear.{linear_of, Heavier, AsHeavy, StrictlyOriented, WeaklyOriented};
 ghost use Rattle.orders.specs.LinearLaws.{linear_laws, positive};
-ghost use Rattle.orders.specs.Interpretation.{meaning, LowTerm, LowRow, WeighsRow, WeighsRule};
+ghost use Rattle.orders.specs.Interpretation.{meaning};
+ghost use Rattle.orders.specs.Walking.{LowTerm, LowRow, WeighsRow, WeighsRule};
 ghost use Rattle.orders.specs.Weights.{Weighs};
 
 use crate::order::Order;

@@ -1,7 +1,8 @@
 ghost use Rattle.std.specs.Prelude.{◌≡◌, ℕ, ◌+◌, ◌*◌, ◌^◌, ◌<◌, ◌≤◌, Decides};
 ghost use Rattle.terms.specs.Term.{variable};
 ghost use Rattle.orders.specs.Linear.{Linear};
-ghost use Rattle.orders.specs.Weights.{coefficient_in, Weighs, AddsUp, Sums, AtLeast};
+ghost use Rattle.orders.specs.Weights.{coefficient_in, Weighs};
+ghost use Rattle.orders.specs.Adding.{AddsUp, Sums, AtLeast};
 
 // A constant, and a coefficient for each of the variables A to H.
 #[derive(Clone, Copy, PartialEq, Eq, Debug)]

@@ -1,5 +1,5 @@
 -- How often a variable stands in a term.
-use Rattle.std.proofs.Common.{◌≡◌, ℕ, zero, suc, ◌+◌, ◌*◌, ◌<◌, ◌≤◌, Some, cond, eqb, refl, ap, ◌∙◌, inl, inr, arith}
+use Rattle.std.proofs.Common.{◌≡◌, ℕ, suc, ◌*◌, ◌≤◌, eqb, refl, ap, inl, inr, arith}
 use mathlib.Core.Logic.{∥∥₁_elim}
 use Rattle.std.proofs.Math.Nat.{ℕ_set}
 use Rattle.std.proofs.lemmas.Bool.{cond-false, cases_lt, ne_eqb}
@@ -9,7 +9,7 @@ use Rattle.terms.specs.Ticket.{TermOf, TermsOf}
 use Rattle.terms.specs.Substitution.{occurrences, occurrences_in}
 use Rattle.terms.specs.Rule.{Rule, RuleOf}
 use Rattle.weighing.specs.declared.Weighing.{Weighing}
-use Rattle.weighing.specs.Weighing.{value_at, times, Missing}
+use Rattle.weighing.specs.Weighing.{times, Missing}
 use Rattle.orders.specs.Linear.{Linear, linear_of, values, coefficient, one_at, baseless}
 use Rattle.orders.proofs.Grids.{past_lines}
 
@@ -27,9 +27,9 @@ module _ (m : Linear) (plain : (f k : ℕ) → m.factor f k ≡ 1) (x : ℕ) whe
 
 pub missing_plain : (w : Weighing) → Missing w → (f k : ℕ) → (linear_of w).factor f k ≡ 1
 missing_plain w missing f k = elim (cases_lt (suc k) 4) [
-    | inl l ↦ ap times (missing (suc k) f l)
-    | inr l ↦ ap times (past_lines w (suc k) f l)
-  ]
+  | inl l ↦ ap times (missing (suc k) f l)
+  | inr l ↦ ap times (past_lines w (suc k) f l)
+]
 
 -- a term over a signature has no variable past the eighth
 module _ (sig : Sig) (x : ℕ) (past : 8 ≤ x) where

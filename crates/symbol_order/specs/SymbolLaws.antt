@@ -8,8 +8,7 @@ use Rattle.terms.specs.Signature.{Sig}
 use Rattle.terms.specs.Ticket.{TermOf, TermsOf, Ticket}
 use Rattle.terms.specs.Substitution.{Substitution, fill, fill_all, occurrences, occurrences_in}
 use Rattle.terms.specs.Position.{Position, part_at, part_in, put_at, put_in}
-use Rattle.terms.specs.Rule.{Rule, RuleOf}
-use Rattle.rewriting.specs.Order.{Induction, OrderLaws}
+use Rattle.rewriting.specs.Order.{OrderLaws}
 use Rattle.symbol_order.specs.Symbols.{Longer, AsLong, ShrinksStrictly, ShrinksWeakly}
 
 none_some : {a : Term} → none ≡ some a → ⊥
@@ -98,9 +97,9 @@ front_past of (suc n) x h = omega (arith, front_past of n x (omega arith), ap (�
 front_in : (of : ℕ → ℕ) → ((x : ℕ) → 1 ≤ of x) → (n x : ℕ) → x < n → front of n x ≡ of x
 front_in of least zero x h = absurd (omega arith)
 front_in of least (suc n) x h = elim (cases_eq n x) [
-    | inl e ↦ omega (arith, least n, front_past of n x (omega (arith, e)), ap (λ z. z * (of n - 1)) (cond-true {A = ℕ} (eqb n x) 1 0 (eq-eqb n x e)), ap of e)
-    | inr ne ↦ omega (arith, front_in of least n x (omega (arith, ne)), ap (λ z. z * (of n - 1)) (cond-false {A = ℕ} (eqb n x) 1 0 (ne_eqb n x ne)))
-  ]
+  | inl e ↦ omega (arith, least n, front_past of n x (omega (arith, e)), ap (λ z. z * (of n - 1)) (cond-true {A = ℕ} (eqb n x) 1 0 (eq-eqb n x e)), ap of e)
+  | inr ne ↦ omega (arith, front_in of least n x (omega (arith, ne)), ap (λ z. z * (of n - 1)) (cond-false {A = ℕ} (eqb n x) 1 0 (ne_eqb n x ne)))
+]
 
 some_symbols : (t : Term) → 1 ≤ symbols t
 some_symbols (variable x) = omega arith
@@ -118,7 +117,11 @@ module _ (l r : Term) (d : ℕ) (variables : (x : ℕ) → occurrences x r ≤ o
       let of : ℕ → ℕ = λ x. symbols (σ x) in
       let least : (x : ℕ) → 1 ≤ of x = λ x. some_symbols (σ x) in
       omega (
-        arith, front_shorter of 8, size_fill σ r, size_fill σ l, size_same (front of 8) of (front_in of least 8) sig r right,
+        arith,
+        front_shorter of 8,
+        size_fill σ r,
+        size_fill σ l,
+        size_same (front of 8) of (front_in of least 8) sig r right,
         size_same (front of 8) of (front_in of least 8) sig l left,
       )
 

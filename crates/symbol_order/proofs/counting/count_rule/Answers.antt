@@ -9,9 +9,11 @@ use Rattle.symbol_order.proofs.counting.count_rule.Goals as goal
 pub returns : goal.returns
 returns c =
     let sheet = c.args.sheet.now in
-    let (known, is) = c.in_ok-rule.ensures.value in
-    (known, record {
-      left = subst (λ t. Counts t c.count_side.result) (c.left.ensures ∙ ap (λ (r : Rule). r.left) is) c.count_side.ensures;
-      right = subst (λ t. Counts t c.count_side-2.result) (c.right.ensures ∙ ap (λ (r : Rule). r.right) is) c.count_side-2.ensures;
-      eight = eight_variables (operators_of sheet) (rule_at (rules_of sheet) c.args.rule) (c.in_ok-rule.ensures.lawful c.args.rule known);
-    })
+    let (known, is) = c.in_ok-rule.ensures.value in (
+      known,
+      record {
+        left = subst (λ t. Counts t c.count_side.result) (c.left.ensures ∙ ap (λ (r : Rule). r.left) is) c.count_side.ensures;
+        right = subst (λ t. Counts t c.count_side-2.result) (c.right.ensures ∙ ap (λ (r : Rule). r.right) is) c.count_side-2.ensures;
+        eight = eight_variables (operators_of sheet) (rule_at (rules_of sheet) c.args.rule) (c.in_ok-rule.ensures.lawful c.args.rule known);
+      },
+    )
