@@ -100,16 +100,13 @@ impl ReductionOrder for Interpretation {
 
 impl Order for Interpretation {
     fn is_strict(&self, sheet: &Sheet, rule: usize) -> bool {
-        let Some((left, right)) = self.weigh_rule(sheet, rule) else {
-            return false;
-        };
-        left.is_at_least(&right) && left.constant > right.constant
+        self.weigh_rule(sheet, rule).is_some_and(|(left, right)| {
+            left.is_at_least(&right) && left.constant > right.constant
+        })
     }
 
     fn is_weak(&self, sheet: &Sheet, rule: usize) -> bool {
-        let Some((left, right)) = self.weigh_rule(sheet, rule) else {
-            return false;
-        };
-        left.is_at_least(&right)
+        self.weigh_rule(sheet, rule)
+            .is_some_and(|(left, right)| left.is_at_least(&right))
     }
 }

@@ -30,16 +30,12 @@ impl ReductionOrder for BySymbols {
 
 impl Order for BySymbols {
     fn is_strict(&self, sheet: &Sheet, rule: usize) -> bool {
-        let Some((left, right)) = count_rule(sheet, rule) else {
-            return false;
-        };
-        left.is_at_least(&right) && left.symbols > right.symbols
+        count_rule(sheet, rule).is_some_and(|(left, right)| {
+            left.is_at_least(&right) && left.symbols > right.symbols
+        })
     }
 
     fn is_weak(&self, sheet: &Sheet, rule: usize) -> bool {
-        let Some((left, right)) = count_rule(sheet, rule) else {
-            return false;
-        };
-        left.is_at_least(&right)
+        count_rule(sheet, rule).is_some_and(|(left, right)| left.is_at_least(&right))
     }
 }
