@@ -18,9 +18,9 @@ use Rattle.reading.specs.Laws.{Explained}
 use Rattle.reading.proofs.Reading.{ticket_law}
 use Rattle.machine.specs.Refusals.{no_room, too_short}
 use Rattle.machine.specs.Machine.{System, Entry, empty, held, Machine, opened, symbols_of, symbols_held, free_nodes}
-use Rattle.machine.specs.Reducing.{Stop, finished, spent, short, Reduced, reduction, StopsFor, Reduces}
+use Rattle.machine.specs.Reducing.{Stop, finished, spent, short, Reduced, reduction}
 use Rattle.machine.specs.Calls.{Call, enter, reduce, show, strike, free, entered, shown, refused, Outcome, answers, becomes, enter_ticket, enter_read, is_finished, reduce_held, reduce_entry, show_entry, strike_entry, call, after}
-use Rattle.machine.proofs.Reducing.{reduces, reduces_room}
+use Rattle.machine.proofs.Reducing.{StopsByNext, ByNext, reduces, reduces_room}
 
 -- ---- the table
 
@@ -91,7 +91,7 @@ holding_set s m i x old a q h k =
 
 module _ (s : System) where
   -- more next steps
-  running_on : (t : Term) (n : ℕ) (f : Bool) (allowed left : ℕ) (r : Reduced) → Running s t n f → Reduces s.rules allowed left (run s.rules n t) r → Running s t (n + r.steps) (f || is_finished r.stop)
+  running_on : (t : Term) (n : ℕ) (f : Bool) (allowed left : ℕ) (r : Reduced) → Running s t n f → ByNext s.rules allowed left (run s.rules n t) r → Running s t (n + r.steps) (f || is_finished r.stop)
   running_on t n f allowed left r a b = record { ticket = a.ticket; going = going; ended = ended f r.stop b.stops a }
     where
       going : (k : ℕ) → k < n + r.steps → next s.rules (run s.rules k t) ≢ none
@@ -104,7 +104,7 @@ module _ (s : System) where
               let g = b.made (k - n) (omega arith) in
               none_some (sym e ∙ ap (λ z. next s.rules (run s.rules z t)) (sym w) ∙ ap (next s.rules) (sym (run_then s.rules n (k - n) t)) ∙ g.is_next)
 
-      ended : (f : Bool) (q : Stop) → StopsFor s.rules allowed left (run s.rules n t) r.steps q → Running s t n f → (f || is_finished q) ≡ true → next s.rules (run s.rules (n + r.steps) t) ≡ none
+      ended : (f : Bool) (q : Stop) → StopsByNext s.rules allowed left (run s.rules n t) r.steps q → Running s t n f → (f || is_finished q) ≡ true → next s.rules (run s.rules (n + r.steps) t) ≡ none
       ended true q w a e = ap (next s.rules) (sym (run_then s.rules n r.steps t) ∙ run_stays s.rules r.steps (run s.rules n t) (a.ended refl)) ∙ a.ended refl
       ended false finished w a e = ap (next s.rules) (sym (run_then s.rules n r.steps t)) ∙ w
       ended false spent w a e = absurd (true≢false (sym e))
@@ -127,7 +127,7 @@ module _ (s : System) where
   keep_reduce m e allowed (Some empty) q a = a
   keep_reduce m e allowed (Some (held t n f)) q a = go (reduction s.rules allowed (free_nodes s m) (run s.rules n t)) (reduces s.rules allowed (free_nodes s m) (run s.rules n t))
     where
-      go : (r : Reduced) → Reduces s.rules allowed (free_nodes s m) (run s.rules n t) r → Holding s (reduce_held m e t n f r).machine
+      go : (r : Reduced) → ByNext s.rules allowed (free_nodes s m) (run s.rules n t) r → Holding s (reduce_held m e t n f r).machine
       go r b =
           holding_set s m e (held t (n + r.steps) (f || is_finished r.stop)) (held t n f) a q (running_on t n f allowed (free_nodes s m) r (a.sound e (held t n f) q) b)
           (subst (λ z. symbols z ≤ free_nodes s m + symbols (run s.rules n t)) (run_then s.rules n r.steps t) (reduces_room s.rules allowed (free_nodes s m) (run s.rules n t) r b))

@@ -4,3 +4,5 @@ pub mod Keeping
 pub mod Whole
 pub mod Following
 pub mod Admitting
+pub mod House
+pub mod Overlapping

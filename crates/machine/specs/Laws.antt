@@ -7,15 +7,15 @@ use Rattle.rewriting.specs.Rules.{RulesOf}
 use Rattle.rewriting.specs.Convergent.{Convergent}
 use Rattle.reading.specs.declared.refusal.Refusal.{Refusal}
 use Rattle.machine.specs.Machine.{System, Machine, opened}
-use Rattle.machine.specs.Reducing.{Reduced, reduction, Reduces}
+use Rattle.machine.specs.Reducing.{Reduced, reduction, IsReduction}
 use Rattle.machine.specs.Calls.{Call, Answer, after}
 use Rattle.machine.specs.Admission.{Admission, admission}
 use Rattle.machine.specs.Whole.{Whole}
 use Rattle.machine.specs.Following.{Follows, Keeps, Session, Kept}
 
--- the relation holds of what the function gives, and of nothing else
-abbrev pub ReductionReduces : Type 0
-ReductionReduces = (rules : List Rule) (allowed free : ℕ) (t : Term) (r : Reduced) → Reduces rules allowed free t r ↔ (r ≡ reduction rules allowed free t)
+-- of rules over a signature, a reduction is what the function gives, and nothing else is one
+abbrev pub ReductionsFixed : Type 0
+ReductionsFixed = (sig : Sig) (rules : List Rule) → RulesOf sig rules → (allowed free : ℕ) (t : Term) (r : Reduced) → IsReduction rules allowed free t r ↔ (r ≡ reduction rules allowed free t)
 
 -- where a test decides the order's strict set, admission answers what the function gives, and nothing else
 abbrev pub AdmissionDecided : (Rule → Type 0) → Type 0

@@ -3,7 +3,9 @@ pub mod Machine
 pub mod Reducing
 pub mod Calls
 pub mod Admission
+pub mod Overlapping
 pub mod Whole
 pub mod Following
 pub mod Laws
+pub mod Weight
 pub mod Cases

@@ -1,4 +1,7 @@
 // Theorems about admission.
+ghost use Rattle.std.specs.Prelude.{ℕ, List};
+ghost use Rattle.terms.specs.Rule.{Rule};
+ghost use Rattle.machine.specs.Overlapping.{OverlapsTested};
 ghost use Rattle.machine.specs.Laws.{AdmissionDecided, OneAdmission, AdmittedConverge, AdmittedKeep};
 
 use rewriting::order::Order;
@@ -13,4 +16,9 @@ pub fn admission_is_decided<O: Order>(order: &O)
 pub fn admitted_rules_keep<O: Order>(order: &O)
     ensures converge { AdmittedConverge (O.strict order.now) }
     ensures keep { AdmittedKeep (O.strict order.now) }
+{}
+
+// There is no refusal exactly if the sides of every overlap pass; else it is that of the first overlap whose sides are refused.
+pub fn overlaps_are_tested()
+    ensures { (rules : List Rule) (nodes : ℕ) → OverlapsTested rules nodes }
 {}
