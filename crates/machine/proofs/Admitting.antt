@@ -15,7 +15,8 @@ use Rattle.reading.specs.declared.refusal.Refusal.{Refusal}
 use Rattle.machine.specs.Refusals.{not_oriented, different_ends, wrong_length}
 use Rattle.machine.specs.Admission.{scratch_limit, or_else, first_below, side_reduced, side_end, side_refusal, ends_refusal, sides_refusal, overlaps_refusal, FirstOutside, Admission, no_pool, unoriented, tested, order_refusal, admission}
 use Rattle.machine.specs.Laws.{AdmissionDecided, OneAdmission, AdmittedConverge, AdmittedKeep}
-use Rattle.machine.proofs.Overlapping.{None_Some, neither, overlaps_tested}
+use Rattle.machine.proofs.Table.{None_Some}
+use Rattle.machine.proofs.Overlapping.{neither, overlaps_tested}
 use Rattle.machine.proofs.Whole.{convergent_keep}
 
 -- ends without a refusal are one and the same

@@ -1,3 +1,4 @@
+pub mod Table
 pub mod Cases
 pub mod Reducing
 pub mod Keeping
@@ -6,3 +7,4 @@ pub mod Following
 pub mod Admitting
 pub mod House
 pub mod Overlapping
+pub mod History

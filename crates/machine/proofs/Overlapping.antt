@@ -14,11 +14,9 @@ use Rattle.rewriting.specs.Positions.{positions}
 use Rattle.rewriting.specs.Unifier.{unifier, IsVariable, Overlap, first_side, second_side}
 use Rattle.rewriting.proofs.Listing.{positions_are_listed}
 use Rattle.reading.specs.declared.refusal.Refusal.{Refusal}
+use Rattle.machine.proofs.Table.{None_Some}
 use Rattle.machine.specs.Admission.{or_else, first_below, first_in, sides_refusal, is_variable, is_root, unified_refusal, part_refusal, overlap_refusal, overlaps_refusal}
 use Rattle.machine.specs.Overlapping.{AllPass, Sooner, FirstRefused, OverlapsTested}
-
-pub None_Some : {A : Type 0} {a : A} → None ≡ Some a → ⊥
-None_Some e = cc
 
 -- ---- no refusal
 

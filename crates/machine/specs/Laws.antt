@@ -1,5 +1,5 @@
 -- What holds of reducing, of admission and of the machine.
-use Rattle.std.specs.Prelude.{◌≡◌, ℕ, ◌↔◌, Bool, true, List, None, Option}
+use Rattle.std.specs.Prelude.{Bool, ◌≡◌, ℕ, ◌↔◌, Bool, true, List, None, Option}
 use Rattle.terms.specs.Term.{Term}
 use Rattle.terms.specs.Signature.{Sig, Declared}
 use Rattle.terms.specs.Rule.{Rule}
@@ -8,9 +8,10 @@ use Rattle.rewriting.specs.Convergent.{Convergent}
 use Rattle.reading.specs.declared.refusal.Refusal.{Refusal}
 use Rattle.machine.specs.Machine.{System, Machine, opened}
 use Rattle.machine.specs.Reducing.{Reduced, reduction, IsReduction}
-use Rattle.machine.specs.Calls.{Call, Answer, after}
+use Rattle.machine.specs.Calls.{Call, Answer, after, answers_to}
+use Rattle.machine.specs.History.{HeldSince}
 use Rattle.machine.specs.Admission.{Admission, admission}
-use Rattle.machine.specs.Whole.{Whole}
+use Rattle.machine.specs.Whole.{Holds, Whole}
 use Rattle.machine.specs.Following.{Follows, Keeps, Session, Kept}
 
 -- of rules over a signature, a reduction is what the function gives, and nothing else is one
@@ -30,6 +31,12 @@ OneAdmission strict = (nodes : ℕ) (rules : List Rule) (a b : Option Refusal) �
 -- rules that are admitted under an order with this strict set are convergent
 abbrev pub AdmittedConverge : (Rule → Type 0) → Type 0
 AdmittedConverge strict = (sig : Sig) → Declared sig → (rules : List Rule) → RulesOf sig rules → (nodes : ℕ) → Admission strict nodes rules None → Convergent sig rules
+
+-- in a machine opened on any numbers of nodes and entries, an entry holds just what the calls and answers since then tell
+abbrev pub HistoryTells : Type 0
+HistoryTells =
+    (s : System) (nodes entries : ℕ) (cs : List Call) (e : ℕ) (t : Term) (n : ℕ) (f : Bool)
+    → Holds (after s (opened nodes entries) cs) e t n f ↔ HeldSince s e cs (answers_to s (opened nodes entries) cs) t n f
 
 -- what holds of a machine opened on any numbers of nodes and entries, after any list of calls
 abbrev pub KeptByAll : System → Type 0

@@ -4,6 +4,7 @@ pub mod Reducing
 pub mod Calls
 pub mod Admission
 pub mod Overlapping
+pub mod History
 pub mod Whole
 pub mod Following
 pub mod Laws
