@@ -12,7 +12,7 @@ use Rattle.reading.specs.declared.refusal.Refusal.{Refusal}
 use Rattle.machine.specs.Refusals.{no_room, is_held, no_entry}
 use Rattle.machine.specs.Machine.{System, Entry, empty, held, Machine, opened, free_nodes}
 use Rattle.machine.specs.Reducing.{Reduced, reduction}
-use Rattle.machine.specs.Calls.{Call, enter, reduce, show, strike, free, Answer, entered, reduced, struck, counted, refused, answers, becomes, enter_ticket, enter_read, is_finished, reduce_held, reduce_entry, strike_entry, call, after, answers_to}
+use Rattle.machine.specs.Calls.{Call, enter, reduce, show, strike, free, Answer, entered, reduced, struck, counted, refused, with_answer, with_entry, enter_ticket, enter_read, is_finished, reduce_held, reduce_entry, strike_entry, call, after, answers_to}
 use Rattle.machine.specs.History.{steps_made, finished_by, steps_made_in, finished_in, HeldSince}
 use Rattle.machine.specs.Whole.{Holds}
 use Rattle.machine.specs.Laws.{HistoryTells}
@@ -77,7 +77,7 @@ module _ (s : System) (m : Machine) (e : ℕ) (t : Term) where
   came_ticket d text u r n f None h = stays (enter d text) _ n f h enter_strike refl refl
   came_ticket d text u r n f (Some (held v k g)) h = stays (enter d text) _ n f h enter_strike refl refl
   came_ticket d text u r n f (Some empty) h =
-      cond_both (nat_le (symbols u) (free_nodes s m)) (becomes m d (held u 0 false) entered) (answers m (refused (no_room (symbols u) (free_nodes s m))))
+      cond_both (nat_le (symbols u) (free_nodes s m)) (with_entry m d (held u 0 false) entered) (with_answer m (refused (no_room (symbols u) (free_nodes s m))))
       (λ x. Holds x.machine e t n f → Came s m e (enter d text) x.answer t n f) (λ p h. new (in_set m.entries d (held u 0 false) e (held t n f) h)) (λ p h. stays (enter d text) _ n f h enter_strike refl refl) h
     where
       new : ((d ≡ e) × (held u 0 false ≡ held t n f)) ⊎ ((d ≡ e → ⊥) × Holds m e t n f) → Came s m e (enter d text) entered t n f
@@ -177,7 +177,7 @@ module _ (s : System) (m : Machine) (e : ℕ) (t : Term) (k : ℕ) (g : Bool) (h
   on_ticket d text u None q = remains m (enter d text) (refused (no_entry d)) h refl refl
   on_ticket d text u (Some (held v i b)) q = remains m (enter d text) (refused (is_held d)) h refl refl
   on_ticket d text u (Some empty) q =
-      cond_both (nat_le (symbols u) (free_nodes s m)) (becomes m d (held u 0 false) entered) (answers m (refused (no_room (symbols u) (free_nodes s m))))
+      cond_both (nat_le (symbols u) (free_nodes s m)) (with_entry m d (held u 0 false) entered) (with_answer m (refused (no_room (symbols u) (free_nodes s m))))
       (λ x. Holds x.machine e t (k + steps_made e (enter d text) x.answer) (g || finished_by e (enter d text) x.answer))
       (λ p. remains (record { nodes = m.nodes; entries = set m.entries d (held u 0 false) }) (enter d text) entered (other d (held u 0 false) (λ z. not_empty (some_entry (sym q ∙ ap (slice_get m.entries) z ∙ h)))) refl refl)
       (λ p. remains m (enter d text) (refused (no_room (symbols u) (free_nodes s m))) h refl refl)
@@ -238,7 +238,7 @@ enters_now s m e t text r x = on_read (read_ticket s.operators text) r x
     on_ticket None q x = absurd (not_refused x)
     on_ticket (Some (held u n f)) q x = absurd (not_refused x)
     on_ticket (Some empty) q x =
-        cond_both (nat_le (symbols t) (free_nodes s m)) (becomes m e (held t 0 false) entered) (answers m (refused (no_room (symbols t) (free_nodes s m))))
+        cond_both (nat_le (symbols t) (free_nodes s m)) (with_entry m e (held t 0 false) entered) (with_answer m (refused (no_room (symbols t) (free_nodes s m))))
         (λ y. y.answer ≡ entered → Holds y.machine e t 0 false) (λ p x. set_here m.entries e (held t 0 false) empty q) (λ p x. absurd (not_refused x)) x
 
     on_read : (o : Result Term TextFault) → o ≡ Ok t → (enter_read s m e o).answer ≡ entered → Holds (enter_read s m e o).machine e t 0 false

@@ -18,7 +18,7 @@ use Rattle.reading.proofs.Reading.{ticket_law}
 use Rattle.machine.specs.Refusals.{no_room, too_short}
 use Rattle.machine.specs.Machine.{System, Entry, empty, held, Machine, opened, symbols_of, symbols_held, free_nodes}
 use Rattle.machine.specs.Reducing.{Stop, finished, spent, short, Reduced, reduction}
-use Rattle.machine.specs.Calls.{Call, enter, reduce, show, strike, free, entered, shown, refused, Outcome, answers, becomes, enter_ticket, enter_read, is_finished, reduce_held, reduce_entry, show_entry, strike_entry, call, after}
+use Rattle.machine.specs.Calls.{Call, enter, reduce, show, strike, free, entered, shown, refused, Outcome, with_answer, with_entry, enter_ticket, enter_read, is_finished, reduce_held, reduce_entry, show_entry, strike_entry, call, after}
 use Rattle.machine.proofs.Table.{in_set, sum_set, in_replicate}
 use Rattle.machine.proofs.Reducing.{StopsByNext, ByNext, reduces, reduces_room}
 
@@ -79,7 +79,7 @@ module _ (s : System) where
   keep_ticket m e t h None q a = a
   keep_ticket m e t h (Some (held u n f)) q a = a
   keep_ticket m e t h (Some empty) q a =
-      cond_both (nat_le (symbols t) (free_nodes s m)) (becomes m e (held t 0 false) entered) (answers m (refused (no_room (symbols t) (free_nodes s m)))) (λ x. Holding s x.machine)
+      cond_both (nat_le (symbols t) (free_nodes s m)) (with_entry m e (held t 0 false) entered) (with_answer m (refused (no_room (symbols t) (free_nodes s m)))) (λ x. Holding s x.machine)
       (λ p. holding_set s m e (held t 0 false) empty a q (record { ticket = h; going = λ k j. absurd (omega arith); ended = λ c. absurd (true≢false (sym c)) }) (let k = leb-true (symbols t) (free_nodes s m) p in omega arith))
       (λ p. a)
 
@@ -134,7 +134,7 @@ nodes_ticket : (s : System) (m : Machine) (e : ℕ) (t : Term) (o : Option Entry
 nodes_ticket s m e t None = refl
 nodes_ticket s m e t (Some (held u n f)) = refl
 nodes_ticket s m e t (Some empty) =
-    cond_both (nat_le (symbols t) (free_nodes s m)) (becomes m e (held t 0 false) entered) (answers m (refused (no_room (symbols t) (free_nodes s m)))) (λ x. x.machine.nodes ≡ m.nodes) (λ p. refl) (λ p. refl)
+    cond_both (nat_le (symbols t) (free_nodes s m)) (with_entry m e (held t 0 false) entered) (with_answer m (refused (no_room (symbols t) (free_nodes s m)))) (λ x. x.machine.nodes ≡ m.nodes) (λ p. refl) (λ p. refl)
 
 nodes_read : (s : System) (m : Machine) (e : ℕ) (o : Result Term TextFault) → (enter_read s m e o).machine.nodes ≡ m.nodes
 nodes_read s m e (Err f) = refl

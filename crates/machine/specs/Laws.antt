@@ -1,5 +1,5 @@
 -- What holds of reducing, of admission and of the machine.
-use Rattle.std.specs.Prelude.{Bool, ◌≡◌, ℕ, ◌↔◌, Bool, true, List, None, Option}
+use Rattle.std.specs.Prelude.{◌≡◌, ℕ, ◌↔◌, Bool, true, List, None, Option}
 use Rattle.terms.specs.Term.{Term}
 use Rattle.terms.specs.Signature.{Sig, Declared}
 use Rattle.terms.specs.Rule.{Rule}
