@@ -111,8 +111,10 @@ def run_slowly(program, data, seed):
     """Gives the program its input in pieces, so that its reads come back short."""
     pieces = random.Random(seed)
     with subprocess.Popen([program], stdin=subprocess.PIPE, stdout=subprocess.PIPE) as ran:
-        threading.Thread(target=give_pieces, args=(ran.stdin, data, pieces)).start()
+        giving = threading.Thread(target=give_pieces, args=(ran.stdin, data, pieces))
+        giving.start()
         found = ran.stdout.read()
+        giving.join()
     return ran.returncode, found
 
 
