@@ -8,3 +8,4 @@ pub mod Admitting
 pub mod House
 pub mod Overlapping
 pub mod History
+pub mod Sides

@@ -10,13 +10,20 @@ use Rattle.machine.specs.Machine.{System, Machine, opened}
 use Rattle.machine.specs.Reducing.{Reduced, reduction, IsReduction}
 use Rattle.machine.specs.Calls.{Call, Answer, after, answers_to}
 use Rattle.machine.specs.History.{HeldSince}
-use Rattle.machine.specs.Admission.{Admission, admission}
+use Rattle.machine.specs.Admission.{Admission, admission, sides_refusal}
+use Rattle.machine.specs.Sides.{SidesAnswer}
 use Rattle.machine.specs.Whole.{Holds, Whole}
 use Rattle.machine.specs.Following.{Follows, Keeps, Session, Kept}
 
 -- of rules over a signature, a reduction is what the function gives, and nothing else is one
 abbrev pub ReductionsFixed : Type 0
 ReductionsFixed = (sig : Sig) (rules : List Rule) → RulesOf sig rules → (allowed free : ℕ) (t : Term) (r : Reduced) → IsReduction rules allowed free t r ↔ (r ≡ reduction rules allowed free t)
+
+-- of rules over a signature, two sides get the answer that the function gives, and no other
+abbrev pub SidesTested : Type 0
+SidesTested =
+    (sig : Sig) (rules : List Rule) → RulesOf sig rules → (nodes outer inner : ℕ) (t u : Term) (answer : Option Refusal)
+    → SidesAnswer rules nodes outer inner t u answer ↔ (answer ≡ sides_refusal rules nodes outer inner t u)
 
 -- where a test decides the order's strict set, admission answers what the function gives, and nothing else
 abbrev pub AdmissionDecided : (Rule → Type 0) → Type 0

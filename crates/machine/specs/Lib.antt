@@ -3,6 +3,7 @@ pub mod Machine
 pub mod Reducing
 pub mod Calls
 pub mod Admission
+pub mod Sides
 pub mod Overlapping
 pub mod History
 pub mod Whole
