@@ -1,0 +1,11 @@
+pub mod Linear
+pub mod Lexicographic
+pub mod Order
+pub mod PairLaws
+pub mod LinearLaws
+pub mod Weights
+pub mod Interpretation
+pub mod Default
+pub mod DefaultOrder
+pub mod Cases
+pub mod Laws
