@@ -1,10 +1,11 @@
-// Reads a sheet up to a line that is just a dot, then a ticket a line, and answers the sheet and each ticket.
+// Reads a sheet up to a line that is just a dot, then a ticket a line, and answers the sheet, each of its rules and each ticket.
 #![tactic(auto)]
 
 use console::answer::write_answer;
 use console::line::Line;
 use console::opening::open;
 use console::reply::reply;
+use console::rule_line::orient;
 use console::sheet_text::SheetText;
 use reader::ticket::TICKET_BYTES;
 use sheet::Sheet;
@@ -15,6 +16,19 @@ use weighing::Weighing;
 
 // How many bytes of the input are read at a time.
 const CHUNK_BYTES: usize = 65536;
+
+// Answers how the default order orients each rule of a sheet.
+fn answer_rules<W: Write>(
+    sheet: &Sheet,
+    first: &Weighing,
+    second: &Weighing,
+    out: &mut W,
+) -> io::Result<()> {
+    for rule in 0..sheet.len() {
+        write_answer(out, Ok(orient(sheet, first, second, rule)))?;
+    }
+    Ok(())
+}
 
 // Answers each line of the input. Where no further line has begun, what is answered is written out before reading on.
 fn answer_lines<R: Read, W: Write>(
@@ -48,6 +62,7 @@ fn main(rt: HostRuntime) -> anyhow::Result<()> {
     let opening = open(&text, &mut sheet, &mut first, &mut second);
     write_answer(&mut out, opening)?;
     if opening.is_ok() {
+        answer_rules(&sheet, &first, &second, &mut out)?;
         answer_lines(sheet.signature(), &mut input, &mut out)?;
     }
     out.flush()?;

@@ -5,3 +5,4 @@ pub mod Replies
 pub mod Endings
 pub mod Fronts
 pub mod Openings
+pub mod RuleLines

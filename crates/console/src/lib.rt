@@ -6,5 +6,6 @@ pub mod laws;
 pub mod line;
 pub mod opening;
 pub mod reply;
+pub mod rule_line;
 pub mod sheet_text;
 pub mod text;
