@@ -300,7 +300,7 @@ def damage_lines(r, text):
 
 def stretched(r, text):
     """To the length of a sheet, or one byte more, or near it."""
-    length = r.choice([32_767, 32_768, 32_769, 32_770, 40_000])
+    length = r.choice([32_766, 32_767, 32_768, 32_769, 32_770, 40_000, 70_000, 140_000])
     filler = r.choice([b"?", b"\n", b"7", b"a", b"#1=#1\n", text or b"x"])
     at = r.choice([0, len(text), len(text)])
     more = max(length - len(text), 0)

@@ -1,5 +1,5 @@
 #!/usr/bin/env python3
-"""Compares tools/sheet_oracle.py with the table of sheets, and with the program `book`.
+"""Compares tools/sheet_oracle.py with the table of sheets, and tools/book_oracle.py with the program `book`.
 
     tools/sheet_compare.py table                         every case of crates/sheet_table/src/cases.rt
     tools/sheet_compare.py program [PROGRAM] [--cases N] [--seed S] [--keep FOLDER]
@@ -21,6 +21,7 @@ import time
 # leaves nothing behind in tools/
 sys.dont_write_bytecode = True
 
+import book_oracle
 import sheet_cases
 import sheet_oracle
 
@@ -111,8 +112,10 @@ def run_slowly(program, data, seed):
     """Gives the program its input in pieces, so that its reads come back short."""
     pieces = random.Random(seed)
     with subprocess.Popen([program], stdin=subprocess.PIPE, stdout=subprocess.PIPE) as ran:
-        threading.Thread(target=give_pieces, args=(ran.stdin, data, pieces)).start()
+        giving = threading.Thread(target=give_pieces, args=(ran.stdin, data, pieces))
+        giving.start()
         found = ran.stdout.read()
+        giving.join()
     return ran.returncode, found
 
 
@@ -138,7 +141,7 @@ def give_pieces(pipe, data, pieces):
 def run_one(program, seed):
     data = sheet_cases.case(seed)
     status, found = run_slowly(program, data, seed) if seed % 50 == 0 else run_whole(program, data)
-    return data, status, found, sheet_oracle.printed(data)
+    return data, status, found, book_oracle.printed(data)
 
 
 def first_difference(found, expected):

@@ -1,9 +1,7 @@
 #!/usr/bin/env python3
-"""Answers what the program `book` must answer, written from docs/ alone and in the plainest way.
+"""Reads sheets and tickets, written from docs/ alone and in the plainest way.
 
-    tools/sheet_oracle.py < INPUT          the answer to a sheet, up to a line `.`, and to each ticket behind it
-
-It knows nothing of the crates: it is there to be compared with them (tools/sheet_compare.py).
+It knows nothing of the crates: it is there to be compared with them (tools/sheet_compare.py, tools/book_oracle.py).
 """
 import re
 import sys
@@ -286,29 +284,3 @@ def split_input(data):
                 tickets.pop()
             return b"".join(before + b"\n" for before in lines[:n]), tickets
     return data, []
-
-
-def answers(data):
-    text, tickets = split_input(data)
-    try:
-        sheet = read_sheet(text)
-    except Refused as refused:
-        return [str(refused)]
-    lines = [f"read {len(sheet.rules)}"]
-    for ticket in tickets:
-        try:
-            if len(ticket) > LINE_BYTES:
-                raise Refused(6, 0, 0)
-            term = read_ticket(sheet, ticket)
-            lines.append(f"ticket {symbols_of(term)} {text_of(term)}")
-        except Refused as refused:
-            lines.append(str(refused))
-    return lines
-
-
-def printed(data):
-    return "".join(line + "\n" for line in answers(data)).encode("latin-1")
-
-
-if __name__ == "__main__":
-    sys.stdout.buffer.write(printed(sys.stdin.buffer.read()))

@@ -1,4 +1,8 @@
+pub mod Texts
 pub mod Lines
+pub mod Printing
 pub mod Replies
-pub mod Heads
 pub mod Endings
+pub mod Fronts
+pub mod Openings
+pub mod RuleLines

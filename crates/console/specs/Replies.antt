@@ -15,7 +15,7 @@ use Rattle.reading.specs.Refusals.{text_refusal, refusal_text}
 use Rattle.reading.specs.declared.refusal.Refusal.{Refusal}
 use Rattle.reading.specs.Reading.{read_ticket}
 use Rattle.console.specs.declared.reply.TicketLine.{TicketLine}
-use Rattle.console.specs.Lines.{Seen, whole_line, overlong_line}
+use Rattle.console.specs.Texts.{Seen, whole_text, overlong_text}
 
 -- the line of a ticket of so many symbols and of this text
 abbrev pub ticket_line : ℕ → List ℕ → List ℕ
@@ -36,8 +36,8 @@ outcome_text sig (Err f) = refusal_text (text_refusal f)
 
 -- the answer to a line: the ticket's symbols and text, or the refusal; a line that is too long is refused as a text that is too long
 abbrev pub answer_text : Sig → Seen → List ℕ
-answer_text sig (whole_line b) = outcome_text sig (read_ticket sig b)
-answer_text sig overlong_line = refusal_text (text_refusal (PastLimit origin))
+answer_text sig (whole_text b) = outcome_text sig (read_ticket sig b)
+answer_text sig overlong_text = refusal_text (text_refusal (PastLimit origin))
 
 -- a ticket in nodes whose text a buffer can take
 pub record Showable (sig : Sig) (l : Layout 2048) (buffer : List ℕ) : Type 0 where

@@ -1,16 +1,14 @@
-ghost use Rattle.std.specs.Prelude.{◌≡◌, [], ◌∷◌, ◌++◌, OnOk, Some};
-ghost use Rattle.std.specs.Io.KnownBytes.{Appends};
+ghost use Rattle.std.specs.Prelude.{◌≡◌, Some};
 ghost use Rattle.signature.specs.Declaring.{sig_of};
-ghost use Rattle.console.specs.Lines.{seen};
+ghost use Rattle.console.specs.Texts.{seen};
 ghost use Rattle.console.specs.Replies.{ticket_text, reply_text, answer_text, Showable, Shows};
 
-use crate::head::too_long;
+use crate::answer::too_long;
 use crate::line::Line;
 use reader::ticket::{TICKET_BYTES, TICKET_NODES, read_ticket};
 use reading::refusal::Refusal;
 use signature::Signature;
-use std::io::Write;
-use std::{fmt, io};
+use std::fmt;
 use terms::layout::Layout;
 use traversal::write::write_text;
 
@@ -38,7 +36,7 @@ pub fn reply<'b>(
 ) -> Result<TicketLine<'b>, Refusal>
     ensures { reply_text result ≡ answer_text (sig_of signature.now) (seen line.now) }
 {
-    let text = line.text().ok_or_else(too_long)?;
+    let text = line.bytes().ok_or_else(too_long)?;
     let ticket = read_ticket(signature, text)?;
     Ok(show(signature, &ticket, buffer))
 }
@@ -60,14 +58,4 @@ fn show<'b>(
         unreachable()
     };
     TicketLine { symbols, text }
-}
-
-// Writes an answer, and a line end behind it.
-pub fn write_reply<W: Write>(out: &mut W, reply: Result<TicketLine<'_>, Refusal>) -> io::Result<()>
-    ensures { OnOk result (Appends (W.contents out.old) (W.contents out.new) (reply_text reply.entry ++ 10 ∷ [])) }
-{
-    match reply {
-        Ok(ticket) => writeln!(out, "{ticket}"),
-        Err(refusal) => writeln!(out, "{refusal}"),
-    }
 }

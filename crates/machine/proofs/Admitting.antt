@@ -1,51 +1,23 @@
 -- What is admitted is convergent, and admission gives one answer.
-use Rattle.std.proofs.Common.{◌≡◌, refl, sym, ◌∙◌, ap, subst, Bool, true, false, cond, ◌||◌, ◌&&◌, true≢false, List, [], ◌∷◌, length, slice_index_or, Contains, Some, None, Option, ◌↔◌, ◌⊎◌, inl, inr, ℕ, zero, suc, ◌-◌, ◌<◌, ◌≤◌, nat_le, eqb, leb-true, leb-false, eqb-true, arith}
+use Rattle.std.proofs.Common.{◌≡◌, refl, sym, ◌∙◌, ap, subst, Bool, true, false, cond, true≢false, List, length, Some, None, Option, ◌↔◌, ◌⊎◌, inl, inr, ℕ, zero, suc, ◌-◌, ◌<◌, ◌≤◌, nat_le, leb-true, leb-false, arith}
 use Rattle.std.proofs.lemmas.Bool.{cond_both}
-use Rattle.std.proofs.Math.Option.{some}
 use Rattle.std.proofs.Math.Decide.{ℕ_discrete, dec_lt}
-use Rattle.terms.specs.Term.{Term, variable, instrument, apply, symbols, term_discrete}
+use Rattle.terms.specs.Term.{Term, symbols, term_discrete}
 use Rattle.terms.specs.Signature.{Sig, Declared}
-use Rattle.terms.specs.Substitution.{renamed}
-use Rattle.terms.specs.Position.{Position}
 use Rattle.terms.specs.Rule.{Rule}
-use Rattle.rewriting.specs.Rules.{rule_at, left_of}
+use Rattle.rewriting.specs.Rules.{rule_at}
 use Rattle.rewriting.specs.Next.{run}
-use Rattle.rewriting.specs.Positions.{positions}
-use Rattle.rewriting.specs.Unifier.{unifier, IsVariable, first_side, second_side}
+use Rattle.rewriting.specs.Unifier.{first_side, second_side}
 use Rattle.rewriting.specs.Order.{Relation, OrderLaws, AllIn}
 use Rattle.rewriting.specs.Convergent.{OverlapsAgree}
-use Rattle.rewriting.proofs.Listing.{positions_are_listed}
 use Rattle.rewriting.proofs.Orders.{tested_converge}
 use Rattle.reading.specs.declared.refusal.Refusal.{Refusal}
 use Rattle.machine.specs.Refusals.{not_oriented, different_ends, wrong_length}
-use Rattle.machine.specs.Admission.{scratch_limit, or_else, first_below, first_in, side_reduced, side_end, side_refusal, ends_refusal, sides_refusal, is_variable, is_root, unified_refusal, part_refusal, overlap_refusal, overlaps_refusal, FirstOutside, Admission, no_pool, unoriented, tested, order_refusal, admission}
+use Rattle.machine.specs.Admission.{scratch_limit, or_else, first_below, side_reduced, side_end, side_refusal, ends_refusal, sides_refusal, overlaps_refusal, FirstOutside, Admission, no_pool, unoriented, tested, order_refusal, admission}
 use Rattle.machine.specs.Laws.{AdmissionDecided, OneAdmission, AdmittedConverge, AdmittedKeep}
+use Rattle.machine.proofs.Table.{None_Some}
+use Rattle.machine.proofs.Overlapping.{neither, overlaps_tested}
 use Rattle.machine.proofs.Whole.{convergent_keep}
-
-None_Some : {A : Type 0} {a : A} → None ≡ Some a → ⊥
-None_Some e = cc
-
--- ---- no refusal
-
-neither : (p q : Option Refusal) → or_else p q ≡ None → (p ≡ None) × (q ≡ None)
-neither None q e = (refl, e)
-neither (Some r) q e = absurd (None_Some (sym e))
-
-none_below : (n : ℕ) (f : ℕ → Option Refusal) → first_below n f ≡ None → (k : ℕ) → k < n → f k ≡ None
-none_below zero f e k h = absurd (omega arith)
-none_below (suc n) f e k h = go (none_below n f (neither (first_below n f) (f n) e).0 k) (ℕ_discrete k n)
-  where
-    go : (k < n → f k ≡ None) → Dec (k ≡ n) → f k ≡ None
-    go rec (yes q) = ap f q ∙ (neither (first_below n f) (f n) e).1
-    go rec (no q) = rec (omega arith)
-
-none_in : {A : Type 0} (as' : List A) (f : A → Option Refusal) → first_in as' f ≡ None → (a : A) → Contains as' a → f a ≡ None
-none_in {A} as' f e a c = go as' e c.0 c.1 c.2
-  where
-    go : (as' : List A) → first_in as' f ≡ None → (k : ℕ) → k < length as' → slice_index_or as' k a ≡ a → f a ≡ None
-    go [] e k h q = absurd (omega arith)
-    go (b ∷ as') e zero h q = ap f (sym q) ∙ (neither (f b) (first_in as' f) e).0
-    go (b ∷ as') e (suc k) h q = go as' (neither (f b) (first_in as' f) e).1 k (omega arith) q
 
 -- ends without a refusal are one and the same
 same_ends : (outer inner : ℕ) (t u : Term) → ends_refusal outer inner t u ≡ None → t ≡ u
@@ -63,33 +35,9 @@ sides_agree rules nodes outer inner t u e =
     let (x, y) = neither (side_refusal rules left outer inner u) _ q in
     ((side_reduced rules nodes t).steps, (side_reduced rules left u).steps, same_ends outer inner (side_end rules nodes t) (side_end rules left u) y)
 
-no_variable : (b : Term) → (IsVariable b → ⊥) → is_variable b ≡ false
-no_variable (variable x) h = absurd (h tt)
-no_variable (instrument n) h = refl
-no_variable (apply f ts) h = refl
-
-not_itself : (outer inner : ℕ) (p : Position) → (outer ≡ inner → p ≡ [] → ⊥) → (eqb outer inner && is_root p) ≡ false
-not_itself outer inner p h = go p h (eqb outer inner) refl
-  where
-    go : (p : Position) → (outer ≡ inner → p ≡ [] → ⊥) → (b : Bool) → eqb outer inner ≡ b → (b && is_root p) ≡ false
-    go p h false e = refl
-    go [] h true e = absurd (h (eqb-true outer inner e) refl)
-    go (k ∷ p) h true e = refl
-
 -- every overlap was tested
 overlaps_agree : (rules : List Rule) (nodes : ℕ) → overlaps_refusal rules nodes ≡ None → OverlapsAgree rules
-overlaps_agree rules nodes e outer inner p m o =
-    let below-outer = none_below (length rules) (λ i. first_below (length rules) (λ j. first_in (positions (left_of rules i)) (overlap_refusal rules nodes i j))) e outer o.outer_known in
-    let below-inner = none_below (length rules) (λ j. first_in (positions (left_of rules outer)) (overlap_refusal rules nodes outer j)) below-outer inner o.inner_known in
-    let listed = (positions_are_listed (left_of rules outer)).all p o.part o.stands in
-    let at-part : overlap_refusal rules nodes outer inner p ≡ None = none_in (positions (left_of rules outer)) (overlap_refusal rules nodes outer inner) below-inner p listed in
-    let at-known : part_refusal rules nodes outer inner p (some o.part) ≡ None = subst (λ z. part_refusal rules nodes outer inner p z ≡ None) o.stands at-part in
-    let at-unified : unified_refusal rules nodes outer inner p (unifier o.part (renamed (left_of rules inner))) ≡ None = clear (is_variable o.part) (eqb outer inner && is_root p) _ (no_variable o.part o.no_variable) (not_itself outer inner p o.not_itself) at-known in
-    let at-sides : unified_refusal rules nodes outer inner p (some m) ≡ None = subst (λ z. unified_refusal rules nodes outer inner p z ≡ None) o.unified at-unified in
-    sides_agree rules nodes outer inner (first_side rules outer m) (second_side rules outer inner p m) at-sides
-  where
-    clear : (a b : Bool) (q : Option Refusal) → a ≡ false → b ≡ false → cond (a || b) None q ≡ None → q ≡ None
-    clear a b q x y e = subst (λ z. cond z None q ≡ None) y (subst (λ z. cond (z || b) None q ≡ None) x e)
+overlaps_agree rules nodes e outer inner p m o = sides_agree rules nodes outer inner (first_side rules outer m) (second_side rules outer inner p m) ((overlaps_tested rules nodes).passed.0 e outer inner p m o)
 
 module _ (greater at_least : Relation) (strict weak : Rule → Type 0) (laws : (sig : Sig) → Declared sig → OrderLaws sig greater at_least strict weak) where
   pub admitted_converge : AdmittedConverge strict

@@ -1,8 +1,7 @@
 -- What the machine keeps, call by call.
-use Rattle.std.proofs.Common.{◌≡◌, ◌≢◌, refl, sym, ◌∙◌, ap, subst, Bool, true, false, ◌||◌, List, [], ◌∷◌, Some, None, Ok, Err, Option, Result, ◌⊎◌, inl, inr, ℕ, zero, suc, ◌+◌, ◌-◌, ◌<◌, ◌≤◌, nat_le, leb-true, sum_by, set, replicate, true≢false, length, drop, ◌++◌, slice_get, arith}
+use Rattle.std.proofs.Common.{◌≡◌, ◌≢◌, refl, sym, ◌∙◌, ap, subst, Bool, true, false, ◌||◌, List, [], ◌∷◌, Some, None, Ok, Err, Option, Result, ◌⊎◌, inl, inr, ℕ, ◌+◌, ◌-◌, ◌<◌, ◌≤◌, nat_le, leb-true, set, true≢false, length, drop, ◌++◌, slice_get, arith}
 use Rattle.std.proofs.lemmas.Bool.{cond_both}
 use Rattle.std.proofs.lemmas.List.Folds.{sum_by-replicate}
-use Rattle.std.proofs.lemmas.List.Sums.{sum_by-cons}
 use Rattle.std.proofs.Math.Option.{none}
 use Rattle.std.proofs.Math.Decide.{dec_lt}
 use Rattle.terms.specs.Term.{Term, symbols}
@@ -18,44 +17,10 @@ use Rattle.reading.specs.Laws.{Explained}
 use Rattle.reading.proofs.Reading.{ticket_law}
 use Rattle.machine.specs.Refusals.{no_room, too_short}
 use Rattle.machine.specs.Machine.{System, Entry, empty, held, Machine, opened, symbols_of, symbols_held, free_nodes}
-use Rattle.machine.specs.Reducing.{Stop, finished, spent, short, Reduced, reduction, StopsFor, Reduces}
-use Rattle.machine.specs.Calls.{Call, enter, reduce, show, strike, free, entered, shown, refused, Outcome, answers, becomes, enter_ticket, enter_read, is_finished, reduce_held, reduce_entry, show_entry, strike_entry, call, after}
-use Rattle.machine.proofs.Reducing.{reduces, reduces_room}
-
--- ---- the table
-
-abbrev Has : List Entry → ℕ → Entry → Type 0
-Has es i x = slice_get es i ≡ Some x
-
-None_Some : {A : Type 0} {a : A} → None ≡ Some a → ⊥
-None_Some e = cc
-
-in_set : (es : List Entry) (i : ℕ) (x : Entry) (j : ℕ) (e : Entry) → Has (set es i x) j e → (e ≡ x) ⊎ Has es j e
-in_set [] i x j e q = inr q
-in_set (y ∷ ys) zero x zero e q = inl (cc)
-in_set (y ∷ ys) zero x (suc j) e q = inr q
-in_set (y ∷ ys) (suc i) x zero e q = inr q
-in_set (y ∷ ys) (suc i) x (suc j) e q = in_set ys i x j e q
-
--- an entry that becomes another, in the sum over the table
-sum_set : (f : Entry → ℕ) (es : List Entry) (i : ℕ) (x old : Entry) → Has es i old → sum_by f (set es i x) + f old ≡ sum_by f es + f x
-sum_set f [] i x old q = absurd (None_Some q)
-sum_set f (y ∷ ys) zero x old q =
-    let w : y ≡ old = cc in
-    let h : f y ≡ f old = ap f w in
-    let a = sum_by-cons f x ys in
-    let b = sum_by-cons f y ys in
-    omega arith
-sum_set f (y ∷ ys) (suc i) x old q =
-    let h = sum_set f ys i x old q in
-    let a = sum_by-cons f y (set ys i x) in
-    let b = sum_by-cons f y ys in
-    omega arith
-
-in_replicate : (n : ℕ) (x e : Entry) (j : ℕ) → Has (replicate n x) j e → e ≡ x
-in_replicate zero x e j q = absurd (None_Some q)
-in_replicate (suc n) x e zero q = cc
-in_replicate (suc n) x e (suc j) q = in_replicate n x e j q
+use Rattle.machine.specs.Reducing.{Stop, finished, spent, short, Reduced, reduction}
+use Rattle.machine.specs.Calls.{Call, enter, reduce, show, strike, free, entered, shown, refused, Outcome, with_answer, with_entry, enter_ticket, enter_read, is_finished, reduce_held, reduce_entry, show_entry, strike_entry, call, after}
+use Rattle.machine.proofs.Table.{in_set, sum_set, in_replicate}
+use Rattle.machine.proofs.Reducing.{StopsByNext, ByNext, reduces, reduces_room}
 
 -- ---- what is kept
 
@@ -70,7 +35,7 @@ Sound s empty = Unit {0}
 Sound s (held t n f) = Running s t n f
 
 pub record Holding (s : System) (m : Machine) : Type 0 where
-  pub sound : (i : ℕ) (e : Entry) → Has m.entries i e → Sound s e
+  pub sound : (i : ℕ) (e : Entry) → slice_get m.entries i ≡ Some e → Sound s e
   pub room : symbols_held s m ≤ m.nodes
 
 holding_opened : (s : System) (nodes entries : ℕ) → Holding s (opened nodes entries)
@@ -79,19 +44,19 @@ holding_opened s nodes entries =
     record { sound = λ i e q. subst (Sound s) (sym (in_replicate entries empty e i q)) tt; room = omega arith }
 
 -- an entry becomes another
-holding_set : (s : System) (m : Machine) (i : ℕ) (x old : Entry) → Holding s m → Has m.entries i old → Sound s x → symbols_of s.rules x ≤ free_nodes s m + symbols_of s.rules old → Holding s (record { nodes = m.nodes; entries = set m.entries i x })
+holding_set : (s : System) (m : Machine) (i : ℕ) (x old : Entry) → Holding s m → slice_get m.entries i ≡ Some old → Sound s x → symbols_of s.rules x ≤ free_nodes s m + symbols_of s.rules old → Holding s (record { nodes = m.nodes; entries = set m.entries i x })
 holding_set s m i x old a q h k =
     let r = a.room in
     let b = sum_set (symbols_of s.rules) m.entries i x old q in
     record { sound = λ j e p. go j e (in_set m.entries i x j e p); room = omega arith }
   where
-    go : (j : ℕ) (e : Entry) → (e ≡ x) ⊎ Has m.entries j e → Sound s e
-    go j e (inl p) = subst (Sound s) (sym p) h
-    go j e (inr p) = a.sound j e p
+    go : (j : ℕ) (e : Entry) → ((i ≡ j) × (x ≡ e)) ⊎ ((i ≡ j → ⊥) × (slice_get m.entries j ≡ Some e)) → Sound s e
+    go j e (inl p) = subst (Sound s) p.1 h
+    go j e (inr p) = a.sound j e p.1
 
 module _ (s : System) where
   -- more next steps
-  running_on : (t : Term) (n : ℕ) (f : Bool) (allowed left : ℕ) (r : Reduced) → Running s t n f → Reduces s.rules allowed left (run s.rules n t) r → Running s t (n + r.steps) (f || is_finished r.stop)
+  running_on : (t : Term) (n : ℕ) (f : Bool) (allowed left : ℕ) (r : Reduced) → Running s t n f → ByNext s.rules allowed left (run s.rules n t) r → Running s t (n + r.steps) (f || is_finished r.stop)
   running_on t n f allowed left r a b = record { ticket = a.ticket; going = going; ended = ended f r.stop b.stops a }
     where
       going : (k : ℕ) → k < n + r.steps → next s.rules (run s.rules k t) ≢ none
@@ -104,7 +69,7 @@ module _ (s : System) where
               let g = b.made (k - n) (omega arith) in
               none_some (sym e ∙ ap (λ z. next s.rules (run s.rules z t)) (sym w) ∙ ap (next s.rules) (sym (run_then s.rules n (k - n) t)) ∙ g.is_next)
 
-      ended : (f : Bool) (q : Stop) → StopsFor s.rules allowed left (run s.rules n t) r.steps q → Running s t n f → (f || is_finished q) ≡ true → next s.rules (run s.rules (n + r.steps) t) ≡ none
+      ended : (f : Bool) (q : Stop) → StopsByNext s.rules allowed left (run s.rules n t) r.steps q → Running s t n f → (f || is_finished q) ≡ true → next s.rules (run s.rules (n + r.steps) t) ≡ none
       ended true q w a e = ap (next s.rules) (sym (run_then s.rules n r.steps t) ∙ run_stays s.rules r.steps (run s.rules n t) (a.ended refl)) ∙ a.ended refl
       ended false finished w a e = ap (next s.rules) (sym (run_then s.rules n r.steps t)) ∙ w
       ended false spent w a e = absurd (true≢false (sym e))
@@ -114,7 +79,7 @@ module _ (s : System) where
   keep_ticket m e t h None q a = a
   keep_ticket m e t h (Some (held u n f)) q a = a
   keep_ticket m e t h (Some empty) q a =
-      cond_both (nat_le (symbols t) (free_nodes s m)) (becomes m e (held t 0 false) entered) (answers m (refused (no_room (symbols t) (free_nodes s m)))) (λ x. Holding s x.machine)
+      cond_both (nat_le (symbols t) (free_nodes s m)) (with_entry m e (held t 0 false) entered) (with_answer m (refused (no_room (symbols t) (free_nodes s m)))) (λ x. Holding s x.machine)
       (λ p. holding_set s m e (held t 0 false) empty a q (record { ticket = h; going = λ k j. absurd (omega arith); ended = λ c. absurd (true≢false (sym c)) }) (let k = leb-true (symbols t) (free_nodes s m) p in omega arith))
       (λ p. a)
 
@@ -127,7 +92,7 @@ module _ (s : System) where
   keep_reduce m e allowed (Some empty) q a = a
   keep_reduce m e allowed (Some (held t n f)) q a = go (reduction s.rules allowed (free_nodes s m) (run s.rules n t)) (reduces s.rules allowed (free_nodes s m) (run s.rules n t))
     where
-      go : (r : Reduced) → Reduces s.rules allowed (free_nodes s m) (run s.rules n t) r → Holding s (reduce_held m e t n f r).machine
+      go : (r : Reduced) → ByNext s.rules allowed (free_nodes s m) (run s.rules n t) r → Holding s (reduce_held m e t n f r).machine
       go r b =
           holding_set s m e (held t (n + r.steps) (f || is_finished r.stop)) (held t n f) a q (running_on t n f allowed (free_nodes s m) r (a.sound e (held t n f) q) b)
           (subst (λ z. symbols z ≤ free_nodes s m + symbols (run s.rules n t)) (run_then s.rules n r.steps t) (reduces_room s.rules allowed (free_nodes s m) (run s.rules n t) r b))
@@ -169,7 +134,7 @@ nodes_ticket : (s : System) (m : Machine) (e : ℕ) (t : Term) (o : Option Entry
 nodes_ticket s m e t None = refl
 nodes_ticket s m e t (Some (held u n f)) = refl
 nodes_ticket s m e t (Some empty) =
-    cond_both (nat_le (symbols t) (free_nodes s m)) (becomes m e (held t 0 false) entered) (answers m (refused (no_room (symbols t) (free_nodes s m)))) (λ x. x.machine.nodes ≡ m.nodes) (λ p. refl) (λ p. refl)
+    cond_both (nat_le (symbols t) (free_nodes s m)) (with_entry m e (held t 0 false) entered) (with_answer m (refused (no_room (symbols t) (free_nodes s m)))) (λ x. x.machine.nodes ≡ m.nodes) (λ p. refl) (λ p. refl)
 
 nodes_read : (s : System) (m : Machine) (e : ℕ) (o : Result Term TextFault) → (enter_read s m e o).machine.nodes ≡ m.nodes
 nodes_read s m e (Err f) = refl

@@ -33,22 +33,22 @@ pub record Outcome : Type 0 where
   pub buffer : List ℕ
 
 -- the machine stays as it is, and there is no buffer
-abbrev pub answers : Machine → Answer → Outcome
-answers m a = record { machine = m; answer = a; buffer = [] }
+abbrev pub with_answer : Machine → Answer → Outcome
+with_answer m a = record { machine = m; answer = a; buffer = [] }
 
 -- an entry becomes another, and there is no buffer
-abbrev pub becomes : Machine → ℕ → Entry → Answer → Outcome
-becomes m e x a = record { machine = record { nodes = m.nodes; entries = slice_set m.entries e x }; answer = a; buffer = [] }
+abbrev pub with_entry : Machine → ℕ → Entry → Answer → Outcome
+with_entry m e x a = record { machine = record { nodes = m.nodes; entries = slice_set m.entries e x }; answer = a; buffer = [] }
 
 -- ---- enter: the text's refusal first, then 20, 18 and 17
 
 abbrev pub enter_ticket : System → Machine → ℕ → Term → Option Entry → Outcome
-enter_ticket s m e t None = answers m (refused (no_entry e))
-enter_ticket s m e t (Some (held u n f)) = answers m (refused (is_held e))
-enter_ticket s m e t (Some empty) = cond (nat_le (symbols t) (free_nodes s m)) (becomes m e (held t 0 false) entered) (answers m (refused (no_room (symbols t) (free_nodes s m))))
+enter_ticket s m e t None = with_answer m (refused (no_entry e))
+enter_ticket s m e t (Some (held u n f)) = with_answer m (refused (is_held e))
+enter_ticket s m e t (Some empty) = cond (nat_le (symbols t) (free_nodes s m)) (with_entry m e (held t 0 false) entered) (with_answer m (refused (no_room (symbols t) (free_nodes s m))))
 
 abbrev pub enter_read : System → Machine → ℕ → Result Term TextFault → Outcome
-enter_read s m e (Err f) = answers m (refused (text_refusal f))
+enter_read s m e (Err f) = with_answer m (refused (text_refusal f))
 enter_read s m e (Ok t) = enter_ticket s m e t (slice_get m.entries e)
 
 -- ---- reduce: the steps made are added to the entry's, and it is finished once a reduce answered so
@@ -59,11 +59,11 @@ is_finished spent = false
 is_finished short = false
 
 abbrev pub reduce_held : Machine → ℕ → Term → ℕ → Bool → Reduced → Outcome
-reduce_held m e t n f r = becomes m e (held t (n + r.steps) (f || is_finished r.stop)) (reduced r)
+reduce_held m e t n f r = with_entry m e (held t (n + r.steps) (f || is_finished r.stop)) (reduced r)
 
 abbrev pub reduce_entry : System → Machine → ℕ → ℕ → Option Entry → Outcome
-reduce_entry s m e allowed None = answers m (refused (no_entry e))
-reduce_entry s m e allowed (Some empty) = answers m (refused (no_entry e))
+reduce_entry s m e allowed None = with_answer m (refused (no_entry e))
+reduce_entry s m e allowed (Some empty) = with_answer m (refused (no_entry e))
 reduce_entry s m e allowed (Some (held t n f)) = reduce_held m e t n f (reduction s.rules allowed (free_nodes s m) (run s.rules n t))
 
 -- ---- show: 20 before 19; the text at the front of the buffer, and the rest as it was
@@ -81,9 +81,9 @@ show_entry s m e buffer (Some (held t n f)) = show_text m e (text_of s.operators
 -- ---- strike
 
 abbrev pub strike_entry : Machine → ℕ → Option Entry → Outcome
-strike_entry m e None = answers m (refused (no_entry e))
-strike_entry m e (Some empty) = answers m (refused (no_entry e))
-strike_entry m e (Some (held t n f)) = becomes m e empty struck
+strike_entry m e None = with_answer m (refused (no_entry e))
+strike_entry m e (Some empty) = with_answer m (refused (no_entry e))
+strike_entry m e (Some (held t n f)) = with_entry m e empty struck
 
 -- ---- every call
 
@@ -92,7 +92,7 @@ call s m (enter e text) = enter_read s m e (read_ticket s.operators text)
 call s m (reduce e allowed) = reduce_entry s m e allowed (slice_get m.entries e)
 call s m (show e buffer) = show_entry s m e buffer (slice_get m.entries e)
 call s m (strike e) = strike_entry m e (slice_get m.entries e)
-call s m free = answers m (counted (free_nodes s m))
+call s m free = with_answer m (counted (free_nodes s m))
 
 -- the machine after a list of calls, refused ones included
 abbrev pub after : System → Machine → List Call → Machine

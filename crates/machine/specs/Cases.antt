@@ -1,13 +1,21 @@
 -- Worked cases: what the machine answers on the house sheet, and which sheets are admitted.
-use Rattle.std.specs.Prelude.{◌≡◌, ℕ, List, [], ◌∷◌, ◌++◌, replicate, codes}
+use Rattle.std.specs.Prelude.{◌≡◌, ℕ, List, [], ◌∷◌, ◌++◌, replicate, Some, None, Option, codes}
+use Rattle.terms.specs.Term.{Term, instrument, apply, nil}
+use Rattle.terms.specs.Rule.{Rule}
+use Rattle.rewriting.specs.Convergent.{Convergent, Converts}
+use Rattle.reading.specs.declared.refusal.Refusal.{Refusal}
 use Rattle.reading.specs.declared.fault.TextFault.TheVariants.{Unexpected}
 use Rattle.reading.specs.Refusals.{text_refusal}
 use Rattle.reading.specs.Cases.{sample, at}
-use Rattle.sheet_reading.specs.Cases.{house_rules}
-use Rattle.machine.specs.Refusals.{no_room, is_held, too_short, no_entry}
+use Rattle.sheet_reading.specs.Values.{Grid}
+use Rattle.sheet_reading.specs.Cases.{house_values, house_rules, neg, both, A, B}
+use Rattle.machine.specs.Refusals.{not_oriented, different_ends, side_short, wrong_length, no_room, is_held, too_short, no_entry}
 use Rattle.machine.specs.Machine.{System, opened}
 use Rattle.machine.specs.Reducing.{finished, spent, short}
 use Rattle.machine.specs.Calls.{Call, enter, reduce, show, strike, free, Answer, entered, reduced, shown, struck, counted, refused, answers_to, buffers_of}
+use Rattle.machine.specs.Admission.{Admission}
+use Rattle.machine.specs.Laws.{KeptByAll}
+use Rattle.machine.specs.Weight.{Lightens}
 
 -- nil, neg and both, and their six rules
 abbrev pub house : System
@@ -59,3 +67,41 @@ pub record Worked : Type 0 where
   pub enter_refused : answered 4 2 (enter 2 (codes "neg(A)") ∷ enter 2 worked ∷ enter 0 (codes "nil") ∷ enter 0 worked ∷ enter 1 worked ∷ []) (refused (text_refusal (Unexpected (at 4))) ∷ refused (no_entry 2) ∷ entered ∷ refused (is_held 0) ∷ refused (no_room 5 3) ∷ [])
   -- a strike frees the nodes
   pub struck_free : answered 8 2 (enter 0 worked ∷ free ∷ strike 0 ∷ free ∷ strike 0 ∷ reduce 0 1 ∷ enter 0 (codes "nil") ∷ free ∷ []) (entered ∷ counted 3 ∷ struck ∷ counted 8 ∷ refused (no_entry 0) ∷ refused (no_entry 0) ∷ entered ∷ counted 7 ∷ [])
+
+-- ---- admission, by weights
+
+-- a name without arguments
+abbrev pub alone : ℕ → Term
+alone n = apply n nil
+
+-- names a, b and c of bases 3, 2 and 1
+abbrev pub falling_values : Grid
+falling_values = (Some 3 ∷ Some 2 ∷ Some 1 ∷ []) ∷ (None ∷ None ∷ None ∷ []) ∷ (None ∷ None ∷ None ∷ []) ∷ (None ∷ None ∷ None ∷ []) ∷ []
+
+-- a=b and a=c
+abbrev pub two_ways : List Rule
+two_ways = record { left = alone 0; right = alone 1 } ∷ record { left = alone 0; right = alone 2 } ∷ []
+
+-- both(A,B)=both(B,A)
+abbrev pub swap : Rule
+swap = record { left = both A B; right = both B A }
+
+-- what admission answers under the order of these weights
+abbrev pub admits : Grid → ℕ → List Rule → Option Refusal → Type 0
+admits values nodes rules answer = Admission (Lightens values) nodes rules answer
+
+pub record WorkedAdmissions : Type 0 where
+  pub the_house_sheet : admits house_values 4096 house_rules None
+  pub different : admits falling_values 4096 two_ways (Some (different_ends 0 1))
+  pub added_swap : admits house_values 4096 (house_rules ++ swap ∷ []) (Some (not_oriented 6))
+  -- no overlap can be tested in a pool without nodes; a pool too long is refused before all else
+  pub no_nodes : admits house_values 0 house_rules (Some (side_short 0 0))
+  pub too_long : admits house_values 16385 (house_rules ++ swap ∷ []) (Some (wrong_length 16385))
+
+-- what is so of the house sheet: its rules are convergent, and what holds after every list of calls
+pub record HouseKeeps : Type 0 where
+  pub converge : Convergent house.operators house.rules
+  pub keep : KeptByAll house
+  -- two tickets with one normal form are joined by a conversion, and two with different ones by none
+  pub joined : Converts house.operators house.rules (neg (both (instrument 7) (neg (instrument 9)))) (both (neg (instrument 7)) (neg (neg (instrument 9))))
+  pub parted : Converts house.operators house.rules (neg (instrument 7)) (instrument 7) → ⊥

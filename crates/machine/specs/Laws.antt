@@ -7,15 +7,23 @@ use Rattle.rewriting.specs.Rules.{RulesOf}
 use Rattle.rewriting.specs.Convergent.{Convergent}
 use Rattle.reading.specs.declared.refusal.Refusal.{Refusal}
 use Rattle.machine.specs.Machine.{System, Machine, opened}
-use Rattle.machine.specs.Reducing.{Reduced, reduction, Reduces}
-use Rattle.machine.specs.Calls.{Call, Answer, after}
-use Rattle.machine.specs.Admission.{Admission, admission}
-use Rattle.machine.specs.Whole.{Whole}
+use Rattle.machine.specs.Reducing.{Reduced, reduction, IsReduction}
+use Rattle.machine.specs.Calls.{Call, Answer, after, answers_to}
+use Rattle.machine.specs.History.{HeldSince}
+use Rattle.machine.specs.Admission.{Admission, admission, sides_refusal}
+use Rattle.machine.specs.Sides.{SidesAnswer}
+use Rattle.machine.specs.Whole.{Holds, Whole}
 use Rattle.machine.specs.Following.{Follows, Keeps, Session, Kept}
 
--- the relation holds of what the function gives, and of nothing else
-abbrev pub ReductionReduces : Type 0
-ReductionReduces = (rules : List Rule) (allowed free : ℕ) (t : Term) (r : Reduced) → Reduces rules allowed free t r ↔ (r ≡ reduction rules allowed free t)
+-- of rules over a signature, a reduction is what the function gives, and nothing else is one
+abbrev pub ReductionsFixed : Type 0
+ReductionsFixed = (sig : Sig) (rules : List Rule) → RulesOf sig rules → (allowed free : ℕ) (t : Term) (r : Reduced) → IsReduction rules allowed free t r ↔ (r ≡ reduction rules allowed free t)
+
+-- of rules over a signature, two sides get the answer that the function gives, and no other
+abbrev pub SidesTested : Type 0
+SidesTested =
+    (sig : Sig) (rules : List Rule) → RulesOf sig rules → (nodes outer inner : ℕ) (t u : Term) (answer : Option Refusal)
+    → SidesAnswer rules nodes outer inner t u answer ↔ (answer ≡ sides_refusal rules nodes outer inner t u)
 
 -- where a test decides the order's strict set, admission answers what the function gives, and nothing else
 abbrev pub AdmissionDecided : (Rule → Type 0) → Type 0
@@ -30,6 +38,12 @@ OneAdmission strict = (nodes : ℕ) (rules : List Rule) (a b : Option Refusal) �
 -- rules that are admitted under an order with this strict set are convergent
 abbrev pub AdmittedConverge : (Rule → Type 0) → Type 0
 AdmittedConverge strict = (sig : Sig) → Declared sig → (rules : List Rule) → RulesOf sig rules → (nodes : ℕ) → Admission strict nodes rules None → Convergent sig rules
+
+-- in a machine opened on any numbers of nodes and entries, an entry holds just what the calls and answers since then tell
+abbrev pub HistoryTells : Type 0
+HistoryTells =
+    (s : System) (nodes entries : ℕ) (cs : List Call) (e : ℕ) (t : Term) (n : ℕ) (f : Bool)
+    → Holds (after s (opened nodes entries) cs) e t n f ↔ HeldSince s e cs (answers_to s (opened nodes entries) cs) t n f
 
 -- what holds of a machine opened on any numbers of nodes and entries, after any list of calls
 abbrev pub KeptByAll : System → Type 0

@@ -3,7 +3,11 @@ pub mod Machine
 pub mod Reducing
 pub mod Calls
 pub mod Admission
+pub mod Sides
+pub mod Overlapping
+pub mod History
 pub mod Whole
 pub mod Following
 pub mod Laws
+pub mod Weight
 pub mod Cases

@@ -1,5 +1,8 @@
 // Theorems about admission.
-ghost use Rattle.machine.specs.Laws.{AdmissionDecided, OneAdmission, AdmittedConverge, AdmittedKeep};
+ghost use Rattle.std.specs.Prelude.{ℕ, List};
+ghost use Rattle.terms.specs.Rule.{Rule};
+ghost use Rattle.machine.specs.Overlapping.{OverlapsTested};
+ghost use Rattle.machine.specs.Laws.{SidesTested, AdmissionDecided, OneAdmission, AdmittedConverge, AdmittedKeep};
 
 use rewriting::order::ReductionOrder;
 
@@ -13,4 +16,14 @@ pub fn admission_is_decided<O: ReductionOrder>(order: &O)
 pub fn admitted_rules_keep<O: ReductionOrder>(order: &O)
     ensures converge { AdmittedConverge (O.strict order.now) }
     ensures keep { AdmittedKeep (O.strict order.now) }
+{}
+
+// Two sides get one answer: 14, 13 or 12 each in its case, else none.
+pub fn sides_are_tested()
+    ensures { SidesTested }
+{}
+
+// There is no refusal exactly if the sides of every overlap pass; else it is that of the first overlap whose sides are refused.
+pub fn overlaps_are_tested()
+    ensures { (rules : List Rule) (nodes : ℕ) → OverlapsTested rules nodes }
 {}

@@ -1,11 +1,16 @@
 // Theorems about the machine.
 ghost use Rattle.machine.specs.Machine.{Machine};
-ghost use Rattle.machine.specs.Laws.{ReductionReduces, ConvergentKeep, SessionsKeep, FollowersKeep};
-ghost use Rattle.machine.specs.Cases.{Worked};
+ghost use Rattle.machine.specs.Laws.{HistoryTells, ReductionsFixed, ConvergentKeep, SessionsKeep, FollowersKeep};
+ghost use Rattle.machine.specs.Cases.{Worked, WorkedAdmissions, HouseKeeps};
 
-// A reduction makes as many next steps as are allowed and possible, and that fixes its answer.
+// A reduction makes the next steps that are allowed and possible, and that fixes how many, and why no more.
 pub fn reductions_are_fixed()
-    ensures { ReductionReduces }
+    ensures { ReductionsFixed }
+{}
+
+// An entry holds just what the calls and their answers tell.
+pub fn histories_tell()
+    ensures { HistoryTells }
 {}
 
 // What holds of convergent rules after every list of calls.
@@ -28,4 +33,16 @@ pub fn followers_keep<B: Follower>(book: &B)
 #[tactic(auto, using(crate::proofs::Cases::worked_cases))]
 pub fn machine_cases_hold()
     ensures { Worked }
+{}
+
+// The worked cases of admission hold.
+#[tactic(auto, using(crate::proofs::House::worked_admissions))]
+pub fn admission_cases_hold()
+    ensures { WorkedAdmissions }
+{}
+
+// The house sheet is admitted, and so its rules are convergent: what holds of those is not empty.
+#[tactic(auto, using(crate::proofs::House::house_keeps))]
+pub fn house_sheet_keeps()
+    ensures { HouseKeeps }
 {}

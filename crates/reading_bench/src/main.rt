@@ -1,4 +1,5 @@
-// Reads large sheets and large tickets many times, and says what was read; with an argument also how fast, by the clock.
+// Reads large sheets and large tickets many times, and says what was read; with an argument also how fast, by the clock of the
+// processor, which leaves out the time that other programs took.
 #![tactic(auto)]
 
 use anyhow::anyhow;
@@ -6,8 +7,7 @@ use reader::ticket::read_ticket;
 use reading::refusal::Refusal;
 use sheet::Sheet;
 use signature::Signature;
-use std::rt::Clock;
-use std::time::Instant;
+use std::time::{CpuClock, Duration};
 use std::{env, io};
 use weighing::Weighing;
 
@@ -37,12 +37,16 @@ fn read_tickets(signature: &Signature, text: &[u8]) -> Result<usize, Refusal> {
 
 // Says, if it is asked for, how many megabytes a second were read: bytes a microsecond.
 fn tell_speed(
-    rt: &(impl Eprint + Clock),
+    rt: &(impl Eprint + CpuClock),
     asked: bool,
     bytes: usize,
-    start: Instant,
+    start: Duration,
 ) -> io::Result<()> {
-    let spent = start.elapsed(rt)?.as_micros().max(1);
+    let spent = rt
+        .thread_cpu_time()?
+        .saturating_sub(start)
+        .as_micros()
+        .max(1);
     if asked {
         let speed = u128::from(TIMES) * bytes as u128 / spent;
         eprintln!(rt; "{speed} MB/s")?;
@@ -57,7 +61,7 @@ fn main(rt: HostRuntime) -> anyhow::Result<()> {
     for (front, levels) in kinds {
         let text = texts::sheet(rt.alloc(), front)?;
         let mut sheet = Sheet::new();
-        let start = Instant::now(&rt)?;
+        let start = rt.thread_cpu_time()?;
         read_sheets(text.as_slice(), &mut sheet).map_err(|refusal| anyhow!("{refusal}"))?;
         let bytes = text.len();
         println!(rt;
@@ -66,7 +70,7 @@ fn main(rt: HostRuntime) -> anyhow::Result<()> {
         )?;
         tell_speed(&rt, asked, bytes, start)?;
         let text = texts::ticket(rt.alloc(), front, levels)?;
-        let start = Instant::now(&rt)?;
+        let start = rt.thread_cpu_time()?;
         let symbols = read_tickets(sheet.signature(), text.as_slice()).map_err(|refusal| anyhow!(
             "{refusal}"
         ))?;

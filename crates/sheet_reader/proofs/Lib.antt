@@ -2,7 +2,7 @@ pub mod Progress
 pub mod Headings
 pub mod Cells
 pub mod Lines
-pub mod Leaves
+pub mod Symbols
 pub mod Nested
 pub mod Rows
 pub mod Storing

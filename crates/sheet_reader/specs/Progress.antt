@@ -50,7 +50,7 @@ Goes b (Err f) On = outcome b ≡ Err f
 abbrev pub EndsEarly : Stand → Type 0
 EndsEarly s = (at : At) → sheet_end s at ≡ Err (Text (Unexpected at))
 
--- a token that may not come behind a term, where an operator without arguments may stand just before; or where nothing is read but marks
+-- the fault of a token that may not come behind a term, where an operator without arguments may stand just before; or where a mark must come
 abbrev pub misplaced : Option At → Tok → At → TextFault
 misplaced bare tok at = cond (is_mark Opening tok) (needless bare at) (fault_of tok at (Unexpected at))
 

@@ -18,7 +18,8 @@ mod whole;
 // Reads a text into a sheet and two weighings, or answers what is wrong with it.
 // `reads`: they are just what the definition gives; the sheet is not admitted, and a second weighing that the text does not have
 // is as if missing. After a refusal the sheet is empty and both weighings are as if missing. `law`: the definition gives a sheet
-// exactly if the text is its text, within the limits, and else the fault of the first wrong token.
+// exactly if the text is its text, within the limits, and else the
+// fault of the first token that is wrong or past a limit.
 #[tactic(auto, using(sheet_reading::proofs::Reading::sheet_law))]
 pub fn read(
     text: &[u8],

@@ -2,9 +2,9 @@ use reading::token::At;
 use signature::Signature;
 use terms::layout::Layout;
 
-mod leaf;
 mod nested;
 mod rooms;
+mod symbols;
 
 // How many rules a sheet may have, and how many symbols a side, on how many levels.
 pub(crate) const SIDE_RULES: usize = 32;

@@ -1,4 +1,4 @@
-ghost use Rattle.std.specs.Prelude.{◌≡◌, ℕ, suc, ◌<◌, ◌≤◌, cond, List, [], ◌∷◌, ◌++◌, length, Some, None, Ok, IfOk};
+ghost use Rattle.std.specs.Prelude.{◌≡◌, ℕ, suc, ◌<◌, cond, List, [], ◌∷◌, ◌++◌, length, Some, None, Ok, IfOk};
 ghost use Rattle.terms.specs.Signature.{Sig};
 ghost use Rattle.signature.specs.Declaring.{sig_of};
 ghost use Rattle.lexer.specs.Lexing.{meaning};

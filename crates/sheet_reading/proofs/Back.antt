@@ -71,7 +71,7 @@ module _ (m : Limits) (g : Head) where
 
 module _ (m : Limits) where
   module _ (sig : Sig) (grid : Grid) (more : length grid < 8) where
-    one_back : (vs : List Value) (v : Value) (at : At) → ValueIn (range_of (length grid) (op_of sig (length vs)).arity) v → sheet_step m (wants_value sig grid vs) at (value_tok v) ≡ Ok (has_value sig grid (vs ++ (v ∷ [])))
+    pub one_back : (vs : List Value) (v : Value) (at : At) → ValueIn (range_of (length grid) (op_of sig (length vs)).arity) v → sheet_step m (wants_value sig grid vs) at (value_tok v) ≡ Ok (has_value sig grid (vs ++ (v ∷ [])))
     one_back vs v at i =
         cond-false (rules_may_come grid vs && is_word (codes "rules") (value_tok v)) _ _ (and_right (rules_may_come grid vs) _ (no_word (codes "rules") v))
         ∙ cond-true (ltb (length grid) 8) _ _ (lt-ltb (length grid) 8 more)

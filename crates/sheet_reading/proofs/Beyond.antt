@@ -16,7 +16,7 @@ use Rattle.reading.specs.Reading.{Context, top, within, State, wants, opens, has
 use Rattle.reading.specs.Heading.{Outcome}
 use Rattle.reading.proofs.Equal.{not_both, same_ok}
 use Rattle.reading.proofs.Lines.{follow, line, blanked, spaced, name_tok, count_tok, heading_tokens}
-use Rattle.reading.proofs.Running.{passed, chain_ok, reach_split, reach_first}
+use Rattle.reading.proofs.Running.{passed, reach_with, then_reach, chain_ok, reach_split, reach_first}
 use Rattle.reading.proofs.States.{stack_tokens, state_tokens}
 use Rattle.reading.proofs.Tokens.{Lexed}
 use Rattle.reading.specs.declared.fault.SheetFault.{SheetFault}
@@ -31,6 +31,7 @@ use Rattle.sheet_reading.proofs.Stands.{reach, start, before_side, stand_tokens,
 use Rattle.sheet_reading.proofs.Goods.{Good, Ruled}
 use Rattle.sheet_reading.proofs.Ruling.{Early, none_begins}
 use Rattle.sheet_reading.proofs.Telling.{tells}
+use Rattle.sheet_reading.proofs.Miscounting.{free, freed}
 use Rattle.sheet_reading.proofs.Stuck.{is_behind}
 use Rattle.sheet_reading.proofs.Back.{behind_sheet}
 use Rattle.sheet_reading.proofs.SideStates.{ContextShaped, StateShaped}
@@ -55,25 +56,30 @@ module _ (n : Limits) (sig : Sig) (grid : Grid) (rules : List Rule) where
   abbrev rule : Hand → State → Stand
   rule d s = in_rule sig grid rules d s
 
-  chained : (d : Hand) (r : Result State SheetFault) (u : Stand) → chain r (λ v. Ok (rule d v)) ≡ Ok u → (v : State) × (u ≡ rule d v)
-  chained d r u e = let (v, p, q) = chain_ok r _ u e in (v, sym (same_ok q))
+  -- one state behind another of a side, with the tokens read as terms are
+  abbrev Reads : Hand → State → At → List Tok → Stand → Type 0
+  Reads d s at ks u = (v : State) × (u ≡ rule d v) × (reach_with (free sig) s at ks ≡ Ok v)
+
+  chained : (d : Hand) (s : State) (at : At) (k : Tok) (u : Stand) → chain (side_step n sig (length rules) d s at k) (λ v. Ok (rule d v)) ≡ Ok u → (v : State) × (u ≡ rule d v) × (free sig s at k ≡ Ok v)
+  chained d s at k u e = let (v, p, q) = chain_ok (side_step n sig (length rules) d s at k) _ u e in (v, sym (same_ok q), freed n sig (length rules) d s at k v p)
 
   no_end : (d : Hand) (k : Tok) → side_end k ≡ 0 → ends_side d k ≡ false
   no_end on_left k h = no_mark Equals k (omega arith)
   no_end (on_right l) k h = no_mark LineEnd k (omega arith)
 
-  on_in_side : (d : Hand) (s : State) (at : At) (k : Tok) (u : Stand) → side_end k ≡ 0 → sheet_step n (rule d s) at k ≡ Ok u → (v : State) × (u ≡ rule d v)
-  on_in_side d (wants c) at k u h e = chained d (side_step n sig (length rules) d (wants c) at k) u e
-  on_in_side d (opens f a i c) at k u h e = chained d (side_step n sig (length rules) d (opens f a i c) at k) u e
-  on_in_side d (has t b top) at k u h e = chained d (side_step n sig (length rules) d (has t b top) at k) u (sym (cond-false (ends_side d k) _ _ (no_end d k h)) ∙ e)
-  on_in_side d (has t b (within f a ts i c)) at k u h e = chained d (side_step n sig (length rules) d (has t b (within f a ts i c)) at k) u e
+  on_in_side : (d : Hand) (s : State) (at : At) (k : Tok) (u : Stand) → side_end k ≡ 0 → sheet_step n (rule d s) at k ≡ Ok u → (v : State) × (u ≡ rule d v) × (free sig s at k ≡ Ok v)
+  on_in_side d (wants c) at k u h e = chained d (wants c) at k u e
+  on_in_side d (opens f a i c) at k u h e = chained d (opens f a i c) at k u e
+  on_in_side d (has t b top) at k u h e = chained d (has t b top) at k u (sym (cond-false (ends_side d k) _ _ (no_end d k h)) ∙ e)
+  on_in_side d (has t b (within f a ts i c)) at k u h e = chained d (has t b (within f a ts i c)) at k u e
 
-  stays_in_side : (d : Hand) (ks : List Tok) (s : State) (at : At) (u : Stand) → count side_end ks ≡ 0 → reach n (rule d s) at ks ≡ Ok u → (v : State) × (u ≡ rule d v)
-  stays_in_side d [] s at u h e = (s, sym (same_ok e))
+  stays_in_side : (d : Hand) (ks : List Tok) (s : State) (at : At) (u : Stand) → count side_end ks ≡ 0 → reach n (rule d s) at ks ≡ Ok u → Reads d s at ks u
+  stays_in_side d [] s at u h e = (s, sym (same_ok e), refl)
   stays_in_side d (k ∷ ks) s at u h e =
       let (x, p, q) = reach_first (sheet_step n) (rule d s) at k ks u e in
-      let (v, r) = on_in_side d s at k x (omega arith) p in
-      stays_in_side d ks v (past at k) u (omega arith) (subst (λ y. reach n y (past at k) ks ≡ Ok u) r q)
+      let (v, r, f) = on_in_side d s at k x (omega arith) p in
+      let (w, i, j) = stays_in_side d ks v (past at k) u (omega arith) (subst (λ y. reach n y (past at k) ks ≡ Ok u) r q) in
+      (w, i, then_reach (free sig) s at k ks v f ∙ j)
 
   -- '=' ends a left side
   behind_equals : (s : State) (at : At) (u : Stand) → sheet_step n (rule on_left s) at (a_mark Equals) ≡ Ok u → (l : Term) × (u ≡ rule (on_right l) (wants top))
@@ -87,7 +93,7 @@ module _ (n : Limits) (sig : Sig) (grid : Grid) (rules : List Rule) where
   behind_hand (on_right l) at u good h e =
       let ks : List Tok = tokens (text_of sig l) in
       let (v, p, q) = reach_split (sheet_step n) (rule on_left (wants top)) at ks (a_mark Equals ∷ []) u e in
-      let (s, r) = stays_in_side on_left ks (wants top) at v (unended_term good l h) p in
+      let (s, r, _) = stays_in_side on_left ks (wants top) at v (unended_term good l h) p in
       let (w, i, j) = reach_first (sheet_step n) v (passed at ks) (a_mark Equals) [] u q in
       let (t, c) = behind_equals s (passed at ks) w (subst (λ x. sheet_step n x (passed at ks) (a_mark Equals) ≡ Ok w) r i) in
       (on_right t, tt, sym (same_ok j) ∙ c)
@@ -98,6 +104,8 @@ pub record StandsIn (s : Stand) {ks : List Tok} (z : InSide ks) : Type 0 where
   pub state : State
   pub stand : s ≡ in_rule z.sheet.operators z.sheet.values z.sheet.rules hand state
   pub alike : SameHand z.hand hand
+  pub place : At
+  pub freely : reach_with (free z.sheet.operators) (wants top) place z.side ≡ Ok state
   pub so_far : state_tokens z.sheet.operators state ≡ z.side
 
 early_on : {A B : Type 0} (r : Result A SheetFault) (f : A → Result B SheetFault) → Early r → Early (chain r f)
@@ -134,7 +142,7 @@ early_has (a_variable x) at t b c h = tt
 early_has (a_mark m) at t b c h = absurd (omega arith)
 early_has (a_stray j) at t b c h = tt
 
-early_in_side : (m : Limits) (sig : Sig) (grid : Grid) (rules : List Rule) (d : Hand) (s : State) (at : At) (k : Tok) → symbol k ≡ 1 → ((c : Context) → s ≡ wants c → room m (length rules) c ≡ false) → Early (sheet_step m (in_rule sig grid rules d s) at k)
+pub early_in_side : (m : Limits) (sig : Sig) (grid : Grid) (rules : List Rule) (d : Hand) (s : State) (at : At) (k : Tok) → symbol k ≡ 1 → ((c : Context) → s ≡ wants c → room m (length rules) c ≡ false) → Early (sheet_step m (in_rule sig grid rules d s) at k)
 early_in_side m sig grid rules d (wants c) at k h f = early_on (side_step m sig (length rules) d (wants c) at k) _ (none_begins m sig (length rules) d at k c (f c refl))
 early_in_side m sig grid rules d (opens o a i c) at k h f = early_on (in_text (on_opens k at o a i c)) _ (early_opens k at o a i c h)
 early_in_side m sig grid rules d (has t b top) at k h f = subst Early (sym (cond-false (ends_side d k) _ _ (no_end m sig grid rules d k (symbol_open k h)))) (early_on (in_text (on_has k at t b top)) _ (early_has k at t b top h))
@@ -146,7 +154,7 @@ line_ends : (ks : List Tok) → 1 ≤ count (mark LineEnd) (follow ks)
 line_ends [] = omega arith
 line_ends (k ∷ ks) = omega (arith, line_ends ks)
 
-line_ended : (ks js : List Tok) → 1 ≤ count (mark LineEnd) (line ks ++ js)
+pub line_ended : (ks js : List Tok) → 1 ≤ count (mark LineEnd) (line ks ++ js)
 line_ended [] js = omega arith
 line_ended (k ∷ ks) js = omega (arith, count_append (mark LineEnd) (follow ks) js, line_ends ks)
 
@@ -161,10 +169,10 @@ names_unended (o ∷ os) = omega (arith, names_unended os)
 heading_ended : (sig : Sig) (js : List Tok) → 1 ≤ count (mark LineEnd) (heading_tokens sig ++ js)
 heading_ended sig js = omega (arith, count_append (mark LineEnd) (heading_tokens sig) js, line_ended (map name_tok sig) (line (map count_tok sig)))
 
-front_ended : (sig : Sig) (grid : Grid) (js : List Tok) → 1 ≤ count (mark LineEnd) (front_tokens sig grid ++ js)
+pub front_ended : (sig : Sig) (grid : Grid) (js : List Tok) → 1 ≤ count (mark LineEnd) (front_tokens sig grid ++ js)
 front_ended sig grid js = omega (arith, count_append (mark LineEnd) (front_tokens sig grid) js, heading_ended sig (grid_tokens grid))
 
-rule_ended : (sig : Sig) (grid : Grid) (rules : List Rule) (d : Hand) (js : List Tok) → 1 ≤ count (mark LineEnd) (before_side sig grid rules d ++ js)
+pub rule_ended : (sig : Sig) (grid : Grid) (rules : List Rule) (d : Hand) (js : List Tok) → 1 ≤ count (mark LineEnd) (before_side sig grid rules d ++ js)
 rule_ended sig grid rules d js =
     let ks : List Tok = sheet_tokens (sheet_of sig grid rules) in
     let front : 1 ≤ count (mark LineEnd) ks = front_ended sig grid _ in
@@ -211,7 +219,7 @@ module _ (ks : List Tok) (s : Stand) (lexed : AllByRecursion Lexed ks) (there : 
       let (w, i, j) = reach_split (sheet_step limits) start origin base (hand_tokens sig z.hand) v p in
       let begun : w ≡ behind_sheet z.sheet = is_behind base w i z.sheet z.shaped refl in
       let (d, alike, here) = behind_hand limits sig grid rules z.hand (passed origin base) v z.shaped.declared z.left (subst (λ x. reach limits x (passed origin base) (hand_tokens sig z.hand) ≡ Ok v) begun j) in
-      let (t, stand) = stays_in_side limits sig grid rules d z.side (wants top) (passed origin earlier) s z.unended (subst (λ x. reach limits x (passed origin earlier) z.side ≡ Ok s) here q) in
+      let (t, stand, freely) = stays_in_side limits sig grid rules d z.side (wants top) (passed origin earlier) s z.unended (subst (λ x. reach limits x (passed origin earlier) z.side ≡ Ok s) here q) in
       let read : before_side sig grid rules d ++ [] ≡ earlier = sym (ap stand_tokens here) ∙ (tells earlier v (all_first Lexed earlier z.side (subst (AllByRecursion Lexed) z.stands lexed)) p).so_far in
       let all : before_side sig grid rules d ++ state_tokens sig t ≡ earlier ++ z.side = sym (ap stand_tokens stand) ∙ (tells ks s lexed there).so_far ∙ z.stands in
       record {
@@ -219,6 +227,8 @@ module _ (ks : List Tok) (s : Stand) (lexed : AllByRecursion Lexed ks) (there : 
         state = t;
         stand = stand;
         alike = alike;
+        place = passed origin earlier;
+        freely = freely;
         so_far = append_cancel_left earlier (state_tokens sig t) z.side (ap (λ x. x ++ state_tokens sig t) (sym read ∙ append-nil _) ∙ all);
       }
 

@@ -36,6 +36,7 @@ worked = record {
   a_symbol_more = refl;
   most_levels = refl;
   a_level_more = refl;
+  limit_before_repeated = refl;
   limit_before_headless = refl;
   undeclared_before_limit = refl;
   undeclared_before_headless = refl;

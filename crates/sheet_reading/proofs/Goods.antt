@@ -28,14 +28,6 @@ abbrev pub HandGood : Sig → Hand → Type 0
 HandGood sig on_left = Unit {0}
 HandGood sig (on_right l) = LeftShaped sig l × SideWithin limits l
 
--- an answer speaks of the operators of the stand, once there are rules
-abbrev pub Over : Stand → Sig → Type 0
-Over (in_heading h) o = Unit {0}
-Over (wants_value sig grid vs) o = Unit {0}
-Over (has_value sig grid vs) o = Unit {0}
-Over (has_word sig grid) o = Unit {0}
-Over (in_rule sig grid rules d s) o = o ≡ sig
-
 -- in a rule; past the last rule none begins
 pub record Ruled (sig : Sig) (grid : Grid) (rules : List Rule) (d : Hand) (s : State) : Type 0 where
   pub shaped : SheetShaped (sheet_of sig grid rules)
@@ -54,4 +46,4 @@ Good (in_rule sig grid rules d s) = Ruled sig grid rules d s
 -- a token that is accepted is one more of the tokens read; one that is refused has its cause
 abbrev pub Said : Stand → Tok → Move → Type 0
 Said s k (Ok u) = Good u × (stand_tokens u ≡ stand_tokens s ++ (k ∷ []))
-Said s k (Err f) = (o : Sig) → Over s o → Cause o (stand_tokens s) (Some k) f
+Said s k (Err f) = Cause (stand_tokens s) (Some k) f

@@ -21,5 +21,9 @@ pub mod Larger
 pub mod Stuck
 pub mod Fresh
 pub mod Completing
+pub mod Miscounting
 pub mod Beyond
+pub mod Ranking
+pub mod Numbering
+pub mod Choosing
 pub mod Reading

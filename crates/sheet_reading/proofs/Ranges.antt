@@ -38,11 +38,11 @@ grid_joined n sig (vs ∷ g) h a b = (a.0, grid_joined (suc n) sig g h a.1 (subs
 
 -- values at their least
 
-abbrev least : Option (ℕ × ℕ) → Value
+abbrev pub least : Option (ℕ × ℕ) → Value
 least None = None
 least (Some r) = Some r.0
 
-least_in : (n arity : ℕ) → ValueIn (range_in n arity) (least (range_in n arity))
+pub least_in : (n arity : ℕ) → ValueIn (range_in n arity) (least (range_in n arity))
 least_in zero arity = (omega arith, omega arith)
 least_in (suc n) arity = cond_both (ltb n arity) (Some (1, 4)) None (λ o. ValueIn o (least o)) (λ _. (omega arith, omega arith)) (λ _. tt)
 

@@ -1,9 +1,9 @@
 -- What reading a sheet is.
-use Rattle.std.proofs.Common.{◌≡◌, ℕ, ◌≤◌, leb, List, ◌++◌, length, take, drop, Ok, Err, Result, sym, refl, ap, ◌∙◌, subst, inl, inr, append-nil}
+use Rattle.std.proofs.Common.{◌≡◌, ℕ, ◌≤◌, leb, List, length, take, drop, Ok, Err, Result, sym, refl, ap, ◌∙◌, subst, inl, inr, append-nil}
 use Rattle.std.specs.List.{AllByRecursion}
 use Rattle.std.proofs.lemmas.Bool.{cond-true, cond_both, le-leb, leb-true, leb-false}
 use Rattle.std.proofs.ByRecursion.{All-take, All-drop}
-use Rattle.reading.specs.declared.fault.TextFault.TheVariants.{PastLimit}
+use Rattle.reading.specs.declared.fault.TextFault.TheVariants.{Stray, BadNumber, Unexpected, Undeclared, WrongArity, PastLimit}
 use Rattle.reading.specs.Tokens.{Tok, tokens, whole, origin}
 use Rattle.reading.specs.Reading.{top, within, wants, opens, has}
 use Rattle.reading.specs.Heading.{sheet_limit}
@@ -12,17 +12,19 @@ use Rattle.reading.proofs.Equal.{not_both, same_ok}
 use Rattle.reading.proofs.Tokens.{whole_tokens, Lexed, tokens_lexed, first_lexed}
 use Rattle.reading.proofs.Running.{passed, run_on, run_ends, run_stops}
 use Rattle.reading.specs.declared.fault.SheetFault.{SheetFault}
-use Rattle.reading.specs.declared.fault.SheetFault.TheVariants.{Text}
+use Rattle.reading.specs.declared.fault.SheetFault.TheVariants.{Text, Repeated, Headless, Doubled, Unbound}
 use Rattle.sheet_reading.specs.Sheet.{Sheet, SheetShaped, limits, SheetWithin, sheet_text}
 use Rattle.sheet_reading.specs.Sides.{on_left, on_right}
 use Rattle.sheet_reading.specs.Reading.{Stand, in_heading, wants_value, has_value, has_word, in_rule, rule_end, sheet_step, sheet_end, sheet_run, read_sheet}
-use Rattle.sheet_reading.specs.Laws.{FirstWrong, Explained, SheetLaw}
+use Rattle.sheet_reading.specs.Laws.{Begins, rank, FirstWrong, Explained, SheetLaw}
 use Rattle.sheet_reading.proofs.Stands.{reach, start}
 use Rattle.sheet_reading.proofs.Written.{tokens_sheet}
-use Rattle.sheet_reading.proofs.Causes.{Cause, refused_for}
+use Rattle.sheet_reading.proofs.SideFacts.{OfLimit}
+use Rattle.sheet_reading.proofs.Causes.{Cause}
 use Rattle.sheet_reading.proofs.Telling.{tells, cause}
 use Rattle.sheet_reading.proofs.Back.{behind_sheet, sheet_back}
-use Rattle.sheet_reading.proofs.Completing.{begun}
+use Rattle.sheet_reading.proofs.Completing.{begun, begins}
+use Rattle.sheet_reading.proofs.Choosing.{Chosen, chosen}
 use Rattle.sheet_reading.proofs.Stuck.{stuck}
 use Rattle.sheet_reading.proofs.Beyond.{none_beyond}
 
@@ -41,6 +43,18 @@ ends (wants_value sig grid vs) at t e = not_both (sym e)
 ends (has_value sig grid vs) at t e = not_both (sym e)
 ends (has_word sig grid) at t e = not_both (sym e)
 ends (in_rule sig grid rules d s) at t e = rule_ends sig grid rules d s at t e
+
+no_limit : (f : SheetFault) → (rank f ≡ 6 → ⊥) → OfLimit f → ⊥
+no_limit (Text (Stray a)) n h = h
+no_limit (Text (BadNumber a)) n h = h
+no_limit (Text (Unexpected a)) n h = h
+no_limit (Text (Undeclared a)) n h = h
+no_limit (Text (WrongArity a)) n h = h
+no_limit (Text (PastLimit a)) n h = n refl
+no_limit (Repeated a) n h = h
+no_limit (Headless a) n h = h
+no_limit (Doubled a) n h = h
+no_limit (Unbound a) n h = h
 
 module _ (b : List ℕ) where
   accepted_run : (t : Sheet) → sheet_run limits start origin (tokens b) ≡ Ok t → SheetShaped t × SheetWithin limits t × (sheet_text t ≡ b)
@@ -62,17 +76,14 @@ module _ (b : List ℕ) where
       let lexed : AllByRecursion Lexed ks = All-take Lexed y.before (tokens b) (tokens_lexed 0 b) in
       let next = first_lexed (drop y.before (tokens b)) (All-drop Lexed y.before (tokens b) (tokens_lexed 0 b)) in
       let z = tells ks y.state lexed y.there in
-      let t = begun y.state z.is_good in
-      let c : Cause t.sheet.operators ks w f =
-      subst (λ l. Cause t.sheet.operators l w f) z.so_far (cause y.state (passed origin ks) w f z.is_good z.place y.refuses next t.sheet.operators t.over) in
+      let c : Chosen ks w f = chosen ks y.state lexed y.there w f y.refuses (subst (λ l. Cause l w f) z.so_far (cause y.state (passed origin ks) w f z.is_good z.place y.refuses next)) in
       record {
         before = y.before;
-        sheet = t.sheet;
-        shaped = t.shaped;
-        rest = t.rest;
-        begins = tokens_sheet t.sheet t.shaped ∙ t.begins ∙ ap (λ l. l ++ t.rest) z.so_far;
+        begins = subst Begins z.so_far (begins y.state (begun y.state z.is_good));
         none_before = none_beyond ks y.state lexed y.there;
-        refused = refused_for t.sheet.operators ks w f c (stuck ks y.state y.there w f y.refuses);
+        stuck = λ n. stuck ks y.state y.there w f y.refuses (no_limit f n);
+        applies = c.0;
+        goes_first = c.1;
       }
 
   explained_run : (r : Result Sheet SheetFault) → sheet_run limits start origin (tokens b) ≡ r → length b ≤ sheet_limit → Explained b r

@@ -21,7 +21,8 @@ use Rattle.sheet_reading.specs.Values.{Grid}
 use Rattle.sheet_reading.specs.Sheet.{SheetShaped, Limits, limits}
 use Rattle.sheet_reading.specs.Sides.{Hand, on_left, on_right, room, within_room, in_text, fronted, variable_on, side_step}
 use Rattle.sheet_reading.specs.Reading.{in_rule, Move, ends_side, behind_side, in_side, on_rule}
-use Rattle.sheet_reading.specs.Laws.{Behind, WholeSheet, BeyondLimit, many_rules, many_symbols, many_levels, hand_tokens, HandTerm, InSide}
+use Rattle.sheet_reading.specs.Laws.{Behind, Miscounted, WholeSheet, BeyondLimit, many_rules, many_symbols, many_levels, hand_tokens, HandTerm, InSide}
+use Rattle.reading.specs.Laws.{Wrong}
 use Rattle.reading.proofs.Tokens.{Lexed}
 use Rattle.sheet_reading.proofs.SideFacts.{LeftShaped, RightShaped, TextReason, SideReason}
 use Rattle.sheet_reading.proofs.Counting.{unended_so_far}
@@ -58,10 +59,10 @@ none_begins m sig rules d at (a_stray b) c h = tt
 never_wants : {B : Type 0} {t : Term} {b : Option At} → has t b top ≡ wants top → B
 never_wants e = absurd (let z : ◌≡◌ {A = ℕ} 0 1 = cc in omega arith)
 
-never_left : {B : Type 0} {l : Term} → on_right l ≡ on_left → B
+pub never_left : {B : Type 0} {l : Term} → on_right l ≡ on_left → B
 never_left e = absurd (let z : ◌≡◌ {A = ℕ} 0 1 = cc in omega arith)
 
-never_right : {B : Type 0} {l : Term} → on_left ≡ on_right l → B
+pub never_right : {B : Type 0} {l : Term} → on_left ≡ on_right l → B
 never_right e = absurd (let z : ◌≡◌ {A = ℕ} 0 1 = cc in omega arith)
 
 -- what stands before a side, and the side so far
@@ -85,6 +86,9 @@ module _ (sig : Sig) (grid : Grid) (rules : List Rule) (d : Hand) (s : State) (g
     stands = ap (λ ks. (ks ++ hand_tokens sig d) ++ state_tokens sig s) (sym (tokens_sheet (sheet_of sig grid rules) g.shaped));
   }
 
+  pub miscounted : (w : Wrong) (a : At) → Miscounted sig (before_side sig grid rules d) (state_tokens sig s) w a → Cause so_far w (Text (WrongArity a))
+  miscounted w a r = (place, subst (λ ks. Miscounted sig ks (state_tokens sig s) w a) (ap (λ ks. ks ++ hand_tokens sig d) (sym (tokens_sheet (sheet_of sig grid rules) g.shaped))) r)
+
   abbrev whole_sheet : d ≡ on_left → s ≡ wants top → WholeSheet so_far
   whole_sheet p q = (sheet_of sig grid rules, g.shaped, tokens_sheet (sheet_of sig grid rules) g.shaped ∙ sym ((λ i. before_side sig grid rules (p i) ++ state_tokens sig (q i)) ∙ append-nil _ ∙ append-nil _))
 
@@ -100,15 +104,15 @@ module _ (sig : Sig) (grid : Grid) (rules : List Rule) (d : Hand) (s : State) (g
       r.2
 
   module _ (at : At) (k : Tok) (p : Behind so_far at) where
-    text_cause : (f : TextFault) → TextReason limits sig (length rules) (before_side sig grid rules d) (state_tokens sig s) at k f → TextCause sig so_far (Some k) f
+    text_cause : (f : TextFault) → TextReason limits sig (length rules) (before_side sig grid rules d) (state_tokens sig s) at k f → TextCause so_far (Some k) f
     text_cause (Stray a) r = (r.0 ∙ p, (r.1.0, ap Some r.1.1))
     text_cause (BadNumber a) r = (r.0 ∙ p, (r.1.0, ⊎_elim (λ e. inl (ap Some e)) (λ e. inr (ap Some e)) r.1.1))
     text_cause (Unexpected a) r = r ∙ p
-    text_cause (Undeclared a) r = (r.0 ∙ p, (r.1.0, ap Some r.1.1, r.1.2))
-    text_cause (WrongArity a) r = r
+    text_cause (Undeclared a) r = (r.0 ∙ p, (place, r.1.0, ap Some r.1.1, r.1.2))
+    text_cause (WrongArity a) r = miscounted (Some k) a r
     text_cause (PastLimit a) r = (r.0 ∙ p, past_limit at k (refl, r.1, r.2), (k, refl, r.1))
 
-    side_cause : (f : SheetFault) → SideReason limits sig (length rules) d (before_side sig grid rules d) s at k f → Cause sig so_far (Some k) f
+    side_cause : (f : SheetFault) → SideReason limits sig (length rules) d (before_side sig grid rules d) s at k f → Cause so_far (Some k) f
     side_cause (Text f) r = text_cause f r
     side_cause (Repeated a) r = absurd r
     side_cause (Headless a) r = (r.0 ∙ p, whole_sheet r.1 r.2)
@@ -140,8 +144,7 @@ module _ (sig : Sig) (grid : Grid) (rules : List Rule) (at : At) (k : Tok) where
   -- inside a side
   said_side : (d : Hand) (s : State) → Ruled sig grid rules d s → Here d s → (r : Result State SheetFault) → side_step limits sig (length rules) d s at k ≡ r → Tells sig limits (length rules) (before_side sig grid rules d) d s at k r
       → Answer d s (chain r (λ u. Ok (in_rule sig grid rules d u)))
-  said_side d s g p (Err f) e z = λ o q.
-      subst (λ x. Cause x (before_side sig grid rules d ++ state_tokens sig s) (Some k) f) (sym q) (side_cause sig grid rules d s g at k p f z)
+  said_side d s g p (Err f) e z = side_cause sig grid rules d s g at k p f z
   said_side d s g p (Ok u) e z = (
     record {
       shaped = g.shaped;

@@ -1,5 +1,5 @@
 -- What is said of a side and of its reading.
-use Rattle.std.proofs.Common.{◌≡◌, ℕ, ◌+◌, ◌≤◌, ◌⊎◌, List, ◌++◌, Some, None, Result}
+use Rattle.std.proofs.Common.{◌≡◌, ℕ, ◌+◌, ◌≤◌, ◌⊎◌, List, Some, None, Result}
 use Rattle.terms.specs.Term.{Term}
 use Rattle.terms.specs.Rule.{OperatorFirst}
 use Rattle.terms.specs.Signature.{Sig, found}
@@ -43,7 +43,7 @@ TextReason m sig rules before side at k (Stray a) = (a ≡ at) × ((b : ℕ) × 
 TextReason m sig rules before side at k (BadNumber a) = (a ≡ at) × ((s : List ℕ) × ((k ≡ a_number s) ⊎ (k ≡ an_instrument s)))
 TextReason m sig rules before side at k (Unexpected a) = a ≡ at
 TextReason m sig rules before side at k (Undeclared a) = (a ≡ at) × ((s : List ℕ) × (k ≡ a_name s) × (found sig s ≡ None))
-TextReason m sig rules before side at k (WrongArity a) = Miscounted sig (before ++ side) (Some k) a
+TextReason m sig rules before side at k (WrongArity a) = Miscounted sig before side (Some k) a
 TextReason m sig rules before side at k (PastLimit a) = (a ≡ at) × (symbol k ≡ 1) × ((m.rules ≤ rules) ⊎ ((count symbol side ≡ m.symbols) ⊎ (count (mark Opening) side ≡ count (mark Closing) side + m.levels)))
 
 abbrev pub SideReason : Limits → Sig → ℕ → Hand → List Tok → State → At → Tok → SheetFault → Type 0

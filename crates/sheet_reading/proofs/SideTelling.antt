@@ -1,5 +1,5 @@
 -- What a token of a side does: it is one more of the tokens read, or it is refused for a reason.
-use Rattle.std.proofs.Common.{◌≡◌, ℕ, zero, suc, ◌+◌, ◌<◌, ◌≤◌, false, cond, eqb, ltb, List, [], ◌∷◌, ◌++◌, length, Some, None, Ok, Err, decimal, Option, Result, sym, refl, ap, ◌∙◌, subst, inl, inr, append_assoc, arith}
+use Rattle.std.proofs.Common.{◌≡◌, ℕ, zero, suc, ◌+◌, ◌<◌, ◌≤◌, false, cond, eqb, ltb, List, [], ◌∷◌, ◌++◌, length, Some, None, Ok, Err, decimal, Option, Result, sym, refl, ap, ◌∙◌, subst, inl, inr, arith}
 use Rattle.std.proofs.lemmas.Bool.{false≢true, cond_both, and_parts, and_cases, ltb-true, ltb-false, eqb-true}
 use Rattle.terms.specs.Term.{Term, variable, instrument, apply, Terms, nil}
 use Rattle.terms.specs.Signature.{Sig, op_of, found, Declared}
@@ -52,33 +52,33 @@ module _ {sig : Sig} (good : Declared sig) (before : List Tok) where
 
   -- the operator behind some tokens, and wrong counts of its arguments
 
-  pub miscounted_opens : (f : ℕ) (a : At) (n : ℕ) (k : Context) (w : Wrong) → Frame sig f a nil n (before ++ stack_tokens sig k) → (w ≡ Some (a_mark Opening) → ⊥) → Miscounted sig (before ++ state_tokens sig (opens f a n k)) w a
+  pub miscounted_opens : (f : ℕ) (a : At) (n : ℕ) (k : Context) (w : Wrong) → Frame sig f a nil n (before ++ stack_tokens sig k) → (w ≡ Some (a_mark Opening) → ⊥) → Miscounted sig before (state_tokens sig (opens f a n k)) w a
   miscounted_opens f a n k w g h =
-      record { earlier = before ++ stack_tokens sig k; operator = f; so_far = nil; declared = g.declared; terms = tt; stands = sym (append_assoc before (stack_tokens sig k) _); shows = missing_opening refl (omega (arith, g.counted)) h; its_place = g.placed }
+      record { earlier = stack_tokens sig k; operator = f; so_far = nil; declared = g.declared; terms = tt; stands = refl; shows = missing_opening refl (omega (arith, g.counted)) h; its_place = g.placed }
 
-  miscounted_within : (t : Term) (b : Option At) (f : ℕ) (a : At) (ts : Terms) (n : ℕ) (k : Context) (w : Wrong) → Frame sig f a ts n (before ++ stack_tokens sig k) → TermOf sig t → ShowsCount (op_of sig f).arity (and_then ts t) w → Miscounted sig (before ++ state_tokens sig (has t b (within f a ts n k))) w a
+  miscounted_within : (t : Term) (b : Option At) (f : ℕ) (a : At) (ts : Terms) (n : ℕ) (k : Context) (w : Wrong) → Frame sig f a ts n (before ++ stack_tokens sig k) → TermOf sig t → ShowsCount (op_of sig f).arity (and_then ts t) w → Miscounted sig before (state_tokens sig (has t b (within f a ts n k))) w a
   miscounted_within t b f a ts n k w g h c = record {
-    earlier = before ++ stack_tokens sig k;
+    earlier = stack_tokens sig k;
     operator = f;
     so_far = and_then ts t;
     declared = g.declared;
     terms = terms_then sig ts t g.terms h;
-    stands = ap (λ l. before ++ l) (tokens_arguments sig f a ts t b n k) ∙ sym (append_assoc before (stack_tokens sig k) _);
+    stands = tokens_arguments sig f a ts t b n k;
     shows = c;
     its_place = g.placed;
   }
 
-  miscounted_opening : (t : Term) (a : At) (k : Context) → TermOf sig t → PlacedOf (Behind (before ++ stack_tokens sig k)) t (Some a) → Miscounted sig (before ++ state_tokens sig (has t (Some a) k)) (Some (a_mark Opening)) a
+  miscounted_opening : (t : Term) (a : At) (k : Context) → TermOf sig t → PlacedOf (Behind (before ++ stack_tokens sig k)) t (Some a) → Miscounted sig before (state_tokens sig (has t (Some a) k)) (Some (a_mark Opening)) a
   miscounted_opening t a k h p =
       let (f, e, q) = p in
       let j : TermOf sig (apply f nil) = subst (TermOf sig) e h in
       record {
-        earlier = before ++ stack_tokens sig k;
+        earlier = stack_tokens sig k;
         operator = f;
         so_far = nil;
         declared = j.0;
         terms = tt;
-        stands = ap (λ x. before ++ (stack_tokens sig k ++ tokens (text_of sig x))) e ∙ ap (λ l. before ++ (stack_tokens sig k ++ l)) (name_alone good f j.0 j.1) ∙ sym (append_assoc before (stack_tokens sig k) _);
+        stands = ap (λ x. stack_tokens sig k ++ tokens (text_of sig x)) e ∙ ap (λ l. stack_tokens sig k ++ l) (name_alone good f j.0 j.1);
         shows = needless_opening refl (sym j.1) refl;
         its_place = q;
       }
@@ -202,7 +202,7 @@ module _ {sig : Sig} (good : Declared sig) (before : List Tok) where
 
     -- behind an operator that takes arguments
 
-    unopened : (d : Hand) (f : ℕ) (a : At) (n : ℕ) (k : Context) (tok : Tok) → Good sig m before d (opens f a n k) → is_mark Opening tok ≡ false → Miscounted sig (before ++ state_tokens sig (opens f a n k)) (Some tok) a
+    unopened : (d : Hand) (f : ℕ) (a : At) (n : ℕ) (k : Context) (tok : Tok) → Good sig m before d (opens f a n k) → is_mark Opening tok ≡ false → Miscounted sig before (state_tokens sig (opens f a n k)) (Some tok) a
     unopened d f a n k tok g h = miscounted_opens f a n k (Some tok) g.begun.shaped.0 (λ e. false≢true (sym h ∙ ap (is_mark Opening) (same_some e)))
 
     opens_mark : (d : Hand) (j : Mark) (at : At) (f : ℕ) (a : At) (n : ℕ) (k : Context) → Good sig m before d (opens f a n k) → Tells sig m rules before d (opens f a n k) at (a_mark j) (in_text (on_opens_mark j f a n k))

@@ -10,7 +10,7 @@ use Rattle.reading.proofs.Running.{passed, reach_split, reach_first, Refuses}
 use Rattle.reading.specs.declared.fault.SheetFault.{SheetFault}
 use Rattle.sheet_reading.specs.Sheet.{Sheet, SheetShaped, Limits, limits, SheetWithin, sheet_text}
 use Rattle.sheet_reading.specs.Reading.{Stand, sheet_step, sheet_end}
-use Rattle.sheet_reading.specs.Laws.{StuckAt}
+use Rattle.sheet_reading.specs.Laws.{Begins, StuckAt}
 use Rattle.sheet_reading.proofs.SideFacts.{More, OfLimit}
 use Rattle.sheet_reading.proofs.Stands.{reach, start}
 use Rattle.sheet_reading.proofs.Written.{tokens_sheet}
@@ -50,11 +50,9 @@ module _ (ks : List Tok) (s : Stand) (there : reach limits start origin ks ≡ O
   pub is_behind : (t : Sheet) → SheetShaped t → tokens (sheet_text t) ≡ ks → s ≡ behind_sheet t
   is_behind t h q = same_ok (sym (there_wide t) ∙ ap (reach (wide t) start origin) (sym q) ∙ read_wide t h)
 
-  pub stuck : (w : Wrong) (f : SheetFault) → Refuses (sheet_step limits) sheet_end s (passed origin ks) w f → (OfLimit f → ⊥) → StuckAt ks w
-  stuck None f e free = λ b.
-      let (t, h, q) = b in
-      not_both (sym (ap (λ x. sheet_end x (passed origin ks)) (is_behind t h q)) ∙ e)
-  stuck (Some k) f e free = λ b.
+  -- a sheet that goes on with a token is read on, within some limits
+  pub goes_on : (k : Tok) → Begins (ks ++ (k ∷ [])) → (n : Limits) × More limits n × ((u : Stand) × (sheet_step n s (passed origin ks) k ≡ Ok u))
+  goes_on k b =
       let (t, h, more) = b in
       let (rest, q) = more in
       let n : Limits = wide t in
@@ -62,5 +60,14 @@ module _ (ks : List Tok) (s : Stand) (there : reach limits start origin ks ≡ O
       let (u, i, j) = reach_split (sheet_step n) start origin ks (k ∷ []) v x in
       let same : u ≡ s = same_ok (sym i ∙ there_wide t) in
       let (z, a, c) = reach_first (sheet_step n) u (passed origin ks) k [] v j in
-      let refused : sheet_step n s (passed origin ks) k ≡ Err f = subst (λ r. Stays r (sheet_step n s (passed origin ks) k)) e (sheet_stays limits n (more_wide t) s (passed origin ks) k) free in
-      not_both (sym a ∙ ap (λ x. sheet_step n x (passed origin ks) k) same ∙ refused)
+      (n, more_wide t, (z, ap (λ x. sheet_step n x (passed origin ks) k) (sym same) ∙ a))
+
+  pub stuck : (w : Wrong) (f : SheetFault) → Refuses (sheet_step limits) sheet_end s (passed origin ks) w f → (OfLimit f → ⊥) → StuckAt ks w
+  stuck None f e free = λ b.
+      let (t, h, q) = b in
+      not_both (sym (ap (λ x. sheet_end x (passed origin ks)) (is_behind t h q)) ∙ e)
+  stuck (Some k) f e free = λ b.
+      let (n, more, y) = goes_on k b in
+      let (u, a) = y in
+      let refused : sheet_step n s (passed origin ks) k ≡ Err f = subst (λ r. Stays r (sheet_step n s (passed origin ks) k)) e (sheet_stays limits n more s (passed origin ks) k) free in
+      not_both (sym a ∙ refused)

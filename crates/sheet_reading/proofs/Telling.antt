@@ -1,5 +1,5 @@
 -- Each token that is accepted is one more of the tokens read, and one that is refused has its cause.
-use Rattle.std.proofs.Common.{◌≡◌, List, [], ◌∷◌, ◌++◌, Some, None, Ok, Err, sym, refl, ap, ◌∙◌, subst, append-nil, arith}
+use Rattle.std.proofs.Common.{◌≡◌, List, [], ◌∷◌, ◌++◌, Some, None, Ok, Err, refl, ap, ◌∙◌, subst, append-nil, arith}
 use Rattle.std.specs.List.{AllByRecursion}
 use Rattle.terms.specs.Signature.{Sig}
 use Rattle.reading.specs.declared.token.At.{At}
@@ -22,9 +22,9 @@ use Rattle.sheet_reading.proofs.Causes.{Cause}
 use Rattle.sheet_reading.proofs.SideTelling.{miscounted_opens}
 use Rattle.reading.proofs.Heads.{head_tokens, HeadGood, HeadSaid, said_head, none}
 use Rattle.sheet_reading.proofs.Headings.{head_cause}
-use Rattle.sheet_reading.proofs.Goods.{Over, Ruled, Good, Said}
+use Rattle.sheet_reading.proofs.Goods.{Ruled, Good, Said}
 use Rattle.sheet_reading.proofs.Valuing.{said_line, said_behind_value, said_behind_word}
-use Rattle.sheet_reading.proofs.Ruling.{said_rule}
+use Rattle.sheet_reading.proofs.Ruling.{miscounted, said_rule}
 use Rattle.std.proofs.lemmas.Option.{none-some}
 
 good_headed : (g : Head) → HeadGood 32 g → Good (headed g)
@@ -43,7 +43,7 @@ headed_tokens (sig, Done) = append-nil _ ∙ append-nil (heading_tokens sig)
 
 said_heading : (h : Head) (at : At) (k : Tok) (r : Outcome) → HeadGood 32 h → Behind (head_tokens h) at → HeadSaid 32 h k at r → Said (in_heading h) k (chain r (λ g. Ok (headed g)))
 said_heading h at k (Ok g) i p z = (good_headed g z.0, headed_tokens g ∙ z.1)
-said_heading h at k (Err f) i p z = λ o _. head_cause o at h k f z i p
+said_heading h at k (Err f) i p z = head_cause at h k f z i p
 
 pub said : (s : Stand) (at : At) (k : Tok) → Lexed k → Good s → Behind (stand_tokens s) at → Said s k (sheet_step limits s at k)
 said (in_heading h) at k l g p = said_heading h at k (head_step 32 h at k) g p (said_head 32 h at k l g)
@@ -70,21 +70,21 @@ tells ks u l e = all_along (sheet_step limits) Lexed Told told_next ks start [] 
 
 -- the cause of a refusal
 
-rule_ended : (sig : Sig) (grid : _) (rules : _) (d : _) (s : _) (at : At) (f : SheetFault) → Ruled sig grid rules d s → Behind (stand_tokens (in_rule sig grid rules d s)) at → rule_end sig grid rules d s at ≡ Err f → Cause sig (stand_tokens (in_rule sig grid rules d s)) None f
+rule_ended : (sig : Sig) (grid : _) (rules : _) (d : _) (s : _) (at : At) (f : SheetFault) → Ruled sig grid rules d s → Behind (stand_tokens (in_rule sig grid rules d s)) at → rule_end sig grid rules d s at ≡ Err f → Cause (stand_tokens (in_rule sig grid rules d s)) None f
 rule_ended sig grid rules on_left (wants top) at f g p e = not_both e
-rule_ended sig grid rules on_left (wants (within h a ts n k)) at f g p e = subst (Cause sig _ None) (same_fault e) p
-rule_ended sig grid rules (on_right l) (wants k) at f g p e = subst (Cause sig _ None) (same_fault e) p
+rule_ended sig grid rules on_left (wants (within h a ts n k)) at f g p e = subst (Cause _ None) (same_fault e) p
+rule_ended sig grid rules (on_right l) (wants k) at f g p e = subst (Cause _ None) (same_fault e) p
 rule_ended sig grid rules d (opens h a n k) at f g p e =
-    subst (Cause sig _ None) (same_fault e) (miscounted_opens g.shaped.declared (before_side sig grid rules d) h a n k None g.side.begun.shaped.0 (none-some _))
-rule_ended sig grid rules d (has t b k) at f g p e = subst (Cause sig _ None) (same_fault e) p
+    subst (Cause _ None) (same_fault e) (miscounted sig grid rules d (opens h a n k) g None a (miscounted_opens g.shaped.declared (before_side sig grid rules d) h a n k None g.side.begun.shaped.0 (none-some _)))
+rule_ended sig grid rules d (has t b k) at f g p e = subst (Cause _ None) (same_fault e) p
 
-pub ended : (s : Stand) (at : At) (f : SheetFault) → Good s → Behind (stand_tokens s) at → sheet_end s at ≡ Err f → (o : Sig) → Over s o → Cause o (stand_tokens s) None f
-ended (in_heading h) at f g p e o q = subst (Cause o _ None) (same_fault e) p
-ended (wants_value sig grid vs) at f g p e o q = subst (Cause o _ None) (same_fault e) p
-ended (has_value sig grid vs) at f g p e o q = subst (Cause o _ None) (same_fault e) p
-ended (has_word sig grid) at f g p e o q = subst (Cause o _ None) (same_fault e) p
-ended (in_rule sig grid rules d s) at f g p e o q = subst (λ x. Cause x (stand_tokens (in_rule sig grid rules d s)) None f) (sym q) (rule_ended sig grid rules d s at f g p e)
+pub ended : (s : Stand) (at : At) (f : SheetFault) → Good s → Behind (stand_tokens s) at → sheet_end s at ≡ Err f → Cause (stand_tokens s) None f
+ended (in_heading h) at f g p e = subst (Cause _ None) (same_fault e) p
+ended (wants_value sig grid vs) at f g p e = subst (Cause _ None) (same_fault e) p
+ended (has_value sig grid vs) at f g p e = subst (Cause _ None) (same_fault e) p
+ended (has_word sig grid) at f g p e = subst (Cause _ None) (same_fault e) p
+ended (in_rule sig grid rules d s) at f g p e = rule_ended sig grid rules d s at f g p e
 
-pub cause : (s : Stand) (at : At) (w : Wrong) (f : SheetFault) → Good s → Behind (stand_tokens s) at → Refuses (sheet_step limits) sheet_end s at w f → ((k : Tok) → w ≡ Some k → Lexed k) → (o : Sig) → Over s o → Cause o (stand_tokens s) w f
-cause s at None f g p e x o q = ended s at f g p e o q
-cause s at (Some k) f g p e x o q = subst (Said s k) e (said s at k (x k refl) g p) o q
+pub cause : (s : Stand) (at : At) (w : Wrong) (f : SheetFault) → Good s → Behind (stand_tokens s) at → Refuses (sheet_step limits) sheet_end s at w f → ((k : Tok) → w ≡ Some k → Lexed k) → Cause (stand_tokens s) w f
+cause s at None f g p e x = ended s at f g p e
+cause s at (Some k) f g p e x = subst (Said s k) e (said s at k (x k refl) g p)

@@ -56,22 +56,22 @@ word_is w (a_stray b) e = absurd (false≢true e)
 module _ (k : Tok) (at : At) where
   abbrev ValueSaid : Option (ℕ × ℕ) → Result Value SheetFault → Type 0
   ValueSaid r (Ok v) = ValueIn r v × (value_tok v ≡ k)
-  ValueSaid r (Err f) = (o : Sig) (before : List Tok) → Behind before at → Cause o before (Some k) f
+  ValueSaid r (Err f) = (before : List Tok) → Behind before at → Cause before (Some k) f
 
 number_said : (r : ℕ × ℕ) (s : List ℕ) (at : At) (o : Option ℕ) → numbered r.1 s ≡ o → r.1 ≤ 100 → AllDigits s → ValueSaid (a_number s) at (Some r) (from_least r.0 o at)
-number_said r s at None e h l = λ o before p. (p, (s, inl refl))
+number_said r s at None e h l = λ before p. (p, (s, inl refl))
 number_said r s at (Some n) e h l =
     let (q, m) = (numbers r.1 s n (omega arith) l).0 e in
-    cond_both (leb r.0 n) _ _ (ValueSaid (a_number s) at (Some r)) (λ z. ((leb-true r.0 n z, m), ap a_number (sym q))) (λ _ o before p. (p, (s, inl refl)))
+    cond_both (leb r.0 n) _ _ (ValueSaid (a_number s) at (Some r)) (λ z. ((leb-true r.0 n z, m), ap a_number (sym q))) (λ _ before p. (p, (s, inl refl)))
 
 value_said : (r : Option (ℕ × ℕ)) (k : Tok) (at : At) → Small r → Lexed k → ValueSaid k at r (value_of r k at)
-value_said None k at h l = cond_both (is_mark Dash k) _ _ (ValueSaid k at None) (λ e. (tt, sym (mark_is Dash k e))) (λ _ o before p. not_here_cause o before at p k)
-value_said (Some r) (a_name s) at h l = λ o before p. p
+value_said None k at h l = cond_both (is_mark Dash k) _ _ (ValueSaid k at None) (λ e. (tt, sym (mark_is Dash k e))) (λ _ before p. not_here_cause before at p k)
+value_said (Some r) (a_name s) at h l = λ before p. p
 value_said (Some r) (a_number s) at h l = number_said r s at (numbered r.1 s) refl h l
-value_said (Some r) (an_instrument s) at h l = λ o before p. not_here_cause o before at p (an_instrument s)
-value_said (Some r) (a_variable x) at h l = λ o before p. p
-value_said (Some r) (a_mark m) at h l = λ o before p. p
-value_said (Some r) (a_stray b) at h l = λ o before p. not_here_cause o before at p (a_stray b)
+value_said (Some r) (an_instrument s) at h l = λ before p. not_here_cause before at p (an_instrument s)
+value_said (Some r) (a_variable x) at h l = λ before p. p
+value_said (Some r) (a_mark m) at h l = λ before p. p
+value_said (Some r) (a_stray b) at h l = λ before p. not_here_cause before at p (a_stray b)
 
 module _ (sig : Sig) (grid : Grid) (at : At) (k : Tok) where
   abbrev front : List Tok
@@ -96,7 +96,7 @@ module _ (sig : Sig) (grid : Grid) (at : At) (k : Tok) where
 
   one_value : (vs : List Value) → Valued sig grid vs → length vs < length sig → length grid < 8 → (r : Result Value SheetFault) → ValueSaid k at (range_of (length grid) (op_of sig (length vs)).arity) r
       → Behind (stand_tokens (wants_value sig grid vs)) at → Said (wants_value sig grid vs) k (chain r (λ v. Ok (has_value sig grid (vs ++ (v ∷ [])))))
-  one_value vs g l h (Err f) z p = λ o _. z o _ p
+  one_value vs g l h (Err f) z p = z _ p
   one_value vs g l h (Ok v) z p = (
     (record { operators = g.operators; some = g.some; in_range = g.in_range; so_far = part_push (length grid) sig vs v g.so_far l z.0; at_most = omega arith; not_last = λ _. h }, omega (arith, length_push vs v)),
     ap (λ l. front ++ spaced l) (map_push value_tok vs v) ∙ ap (λ l. front ++ l) (spaced_push (map value_tok vs) (value_tok v))
@@ -108,7 +108,7 @@ module _ (sig : Sig) (grid : Grid) (at : At) (k : Tok) where
       (λ e. let (a, b) = and_parts (rules_may_come grid vs) _ e in said_word vs g.0 a b)
       (λ _. cond_both (ltb (length grid) 8) _ _ (Said (wants_value sig grid vs) k)
       (λ e. one_value vs g.0 g.1 (ltb-true (length grid) 8 e) _ (value_said _ k at (range_small (length grid % 4) (op_of sig (length vs)).arity) l) p)
-      (λ _ o _. not_here_cause o _ at p k))
+      (λ _. not_here_cause _ at p k))
 
   -- behind a value
 
@@ -134,8 +134,8 @@ module _ (sig : Sig) (grid : Grid) (at : At) (k : Tok) where
   pub said_behind_value : (vs : List Value) → Good (has_value sig grid vs) → Behind (stand_tokens (has_value sig grid vs)) at → Said (has_value sig grid vs) k (behind_value sig grid vs k at)
   said_behind_value vs g p =
       cond_both (ltb (length vs) (length sig)) _ _ (Said (has_value sig grid vs) k)
-      (λ a. cond_both (is_mark Blank k) _ _ (Said (has_value sig grid vs) k) (λ b. said_blank vs g (ltb-true (length vs) (length sig) a) (mark_is Blank k b)) (λ _ o _. not_here_cause o _ at p k))
-      (λ a. cond_both (is_mark LineEnd k) _ _ (Said (has_value sig grid vs) k) (λ b. said_line_end vs g (ltb-false (length vs) (length sig) a) (mark_is LineEnd k b)) (λ _ o _. not_here_cause o _ at p k))
+      (λ a. cond_both (is_mark Blank k) _ _ (Said (has_value sig grid vs) k) (λ b. said_blank vs g (ltb-true (length vs) (length sig) a) (mark_is Blank k b)) (λ _. not_here_cause _ at p k))
+      (λ a. cond_both (is_mark LineEnd k) _ _ (Said (has_value sig grid vs) k) (λ b. said_line_end vs g (ltb-false (length vs) (length sig) a) (mark_is LineEnd k b)) (λ _. not_here_cause _ at p k))
 
   -- behind the word
 
@@ -151,4 +151,4 @@ module _ (sig : Sig) (grid : Grid) (at : At) (k : Tok) where
         },
         append-nil _ ∙ append-nil _ ∙ ap (λ x. front ++ (the_word ∷ (x ∷ []))) (sym (mark_is LineEnd k e)) ∙ sym (append_assoc front (the_word ∷ []) (k ∷ [])),
       ))
-      (λ _ o _. not_here_cause o _ at p k)
+      (λ _. not_here_cause _ at p k)

@@ -142,6 +142,7 @@ pub record Worked : Type 0 where
   pub most_levels : takes (with_rules ((negated 15 (codes "nil") ++ codes "=nil") ∷ [])) 3 1
   pub a_level_more : refuses_rule (negated 16 (codes "nil") ++ codes "=nil") (Text (PastLimit (at 113 7)))
   -- where two faults apply to one token
+  pub limit_before_repeated : reads (line_of (λ w. w) (names_from 32 0 ++ (codes "aa" ∷ []))) (Err (Text (PastLimit (at 96 0))))
   pub limit_before_headless : reads (with_rules (times 32 (codes "neg(nil)=nil") ++ (codes "A=nil" ∷ []))) (Err (Text (PastLimit (at 465 39))))
   pub undeclared_before_limit : reads (with_rules (times 32 (codes "neg(nil)=nil") ++ (codes "no=nil" ∷ []))) (Err (Text (Undeclared (at 465 39))))
   pub undeclared_before_headless : refuses_rule (codes "x=nil") (Text (Undeclared (at 49 7)))

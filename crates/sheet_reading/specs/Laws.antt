@@ -1,5 +1,5 @@
 -- What reading a sheet is, in the words of the subject.
-use Rattle.std.specs.Prelude.{◌≡◌, ℕ, ◌+◌, ◌<◌, ◌≤◌, cond, ◌⊎◌, List, [], ◌∷◌, ◌++◌, length, take, drop, Some, None, Ok, Err, Result, ◌==◌}
+use Rattle.std.specs.Prelude.{◌≡◌, ℕ, ◌+◌, ◌<◌, ◌≤◌, cond, ◌⊎◌, List, [], ◌∷◌, ◌++◌, length, take, drop, Some, None, Ok, Err, Result, ◌==◌, ◌≢◌}
 use Rattle.terms.specs.Term.{Term, Terms}
 use Rattle.terms.specs.Signature.{Sig, op_of, Declared, found}
 use Rattle.terms.specs.Ticket.{TermOf, TermsOf}
@@ -12,7 +12,7 @@ use Rattle.reading.specs.declared.fault.TextFault.{TextFault}
 use Rattle.reading.specs.declared.fault.TextFault.TheVariants.{Stray, BadNumber, Unexpected, Undeclared, WrongArity, PastLimit}
 use Rattle.reading.specs.Tokens.{Tok, a_name, a_number, an_instrument, a_variable, a_mark, a_stray, tokens, whole, lines, origin}
 use Rattle.reading.specs.Heading.{sheet_limit}
-use Rattle.reading.specs.Laws.{Wrong, first_of, ShowsCount, arguments_so_far}
+use Rattle.reading.specs.Laws.{Wrong, first_of, ShowsCount, arguments_so_far, IllNumbered, rank as text_rank}
 use Rattle.reading.specs.declared.fault.SheetFault.{SheetFault}
 use Rattle.reading.specs.declared.fault.SheetFault.TheVariants.{Text, Repeated, Headless, Doubled, Unbound}
 use Rattle.sheet_reading.specs.Sheet.{Sheet, SheetShaped, limits, SheetWithin, sheet_text}
@@ -77,6 +77,10 @@ abbrev pub HandTerm : Sig → Hand → Type 0
 HandTerm sig on_left = Unit {0}
 HandTerm sig (on_right l) = TermOf sig l
 
+-- what stands before a side of a rule behind a whole sheet
+abbrev pub front_of_side : Sheet → Hand → List Tok
+front_of_side s d = tokens (sheet_text s) ++ hand_tokens s.operators d
+
 -- behind a whole sheet a side of a further rule has begun, and has not ended
 pub record InSide (before : List Tok) : Type 0 where
   pub sheet : Sheet
@@ -85,7 +89,7 @@ pub record InSide (before : List Tok) : Type 0 where
   pub left : HandTerm sheet.operators hand
   pub side : List Tok
   pub unended : count side_end side ≡ 0
-  pub stands : before ≡ (tokens (sheet_text sheet) ++ hand_tokens sheet.operators hand) ++ side
+  pub stands : before ≡ front_of_side sheet hand ++ side
 
 -- names, each with a blank behind it
 abbrev pub names_on : Sig → List Tok
@@ -103,16 +107,58 @@ pub data BeyondLimit (before : List Tok) : Type 0 where
 abbrev pub NoneBeyond : List Tok → Type 0
 NoneBeyond ks = (before : List Tok) (k : Tok) (behind : List Tok) → ks ≡ before ++ (k ∷ behind) → symbol k ≡ 1 → BeyondLimit before → ⊥
 
--- an operator stands before the wrong token, with the arguments so far, and the token shows a wrong count; the place is the operator's
-pub record Miscounted (sig : Sig) (before : List Tok) (w : Wrong) (at : At) : Type 0 where
+-- an operator stands in a side, with the arguments so far, and the wrong token behind them shows a wrong count; the place is the operator's
+pub record Miscounted (sig : Sig) (front side : List Tok) (w : Wrong) (at : At) : Type 0 where
   pub earlier : List Tok
   pub operator : ℕ
   pub so_far : Terms
   pub declared : operator < length sig
   pub terms : TermsOf sig so_far
-  pub stands : before ≡ earlier ++ (a_name (op_of sig operator).name ∷ arguments_so_far sig so_far)
+  pub stands : side ≡ earlier ++ (a_name (op_of sig operator).name ∷ arguments_so_far sig so_far)
   pub shows : ShowsCount (op_of sig operator).arity so_far w
-  pub its_place : Behind earlier at
+  pub its_place : Behind (front ++ earlier) at
+
+-- two tokens of one kind behind these tokens: numbers; names in the first line; symbols in a side; and any token, as a mark or the word 'rules', with itself
+pub data OneKind (before : List Tok) (k j : Tok) : Type 0 where
+  same : k ≡ j → OneKind before k j
+  numbers : (s t : List ℕ) → k ≡ a_number s → j ≡ a_number t → OneKind before k j
+  names : (s t : List ℕ) → k ≡ a_name s → j ≡ a_name t → count (mark LineEnd) before ≡ 0 → OneKind before k j
+  symbols : InSide before → symbol k ≡ 1 → symbol j ≡ 1 → OneKind before k j
+
+-- the end too early, or a token of a kind that is not allowed here
+abbrev pub NotAllowed : List Tok → Wrong → Type 0
+NotAllowed before None = Unit {0}
+NotAllowed before (Some k) = (j : Tok) → OneKind before k j → Begins (before ++ j ∷ []) → ⊥
+
+-- a number may stand here, but not this one
+abbrev pub OutOfRange : List Tok → Wrong → Type 0
+OutOfRange before w = (s t : List ℕ) × (w ≡ Some (a_number s)) × Begins (before ++ a_number t ∷ []) × (Begins (before ++ a_number s ∷ []) → ⊥)
+
+-- a name that is not declared, in a side, where a term may begin
+pub record NotDeclared (before : List Tok) (w : Wrong) : Type 0 where
+  pub place : InSide before
+  pub begins_a_term : (j : Tok) × (symbol j ≡ 1) × Begins (before ++ j ∷ [])
+  pub name : List ℕ
+  pub is_name : w ≡ Some (a_name name)
+  pub not_found : found place.sheet.operators name ≡ None
+
+-- a name that stands among those before it
+pub record Twice (before : List Tok) (w : Wrong) : Type 0 where
+  pub names : Sig
+  pub stands : before ≡ names_on names
+  pub name : List ℕ
+  pub is_name : w ≡ Some (a_name name)
+  pub is_found : (f : ℕ) × (found names name ≡ Some f)
+
+-- the first symbol of a left side, which is no declared operator
+pub record NoOperator (before : List Tok) (w : Wrong) : Type 0 where
+  pub sheet : Sheet
+  pub shaped : SheetShaped sheet
+  pub stands : before ≡ tokens (sheet_text sheet)
+  pub token : Tok
+  pub is_token : w ≡ Some token
+  pub is_symbol : symbol token ≡ 1
+  pub not_declared : (s : List ℕ) → token ≡ a_name s → found sheet.operators s ≡ None
 
 -- the variable stands in a left side
 pub record InLeft (x : ℕ) (before : List Tok) : Type 0 where
@@ -127,31 +173,38 @@ pub record NotInLeft (x : ℕ) (before : List Tok) : Type 0 where
   pub on_the_right : place.hand ≡ on_right left
   pub not_among : occurrences x left ≡ 0
 
--- why a token, or the end, is refused behind these tokens, and where: no sheet goes on with it, for a reason that the fault names; or it is past a limit
-abbrev pub TextRefused : Sig → List Tok → Wrong → TextFault → Type 0
-TextRefused sig before w (Stray at) = Behind before at × StuckAt before w × ((b : ℕ) × (w ≡ Some (a_stray b)))
-TextRefused sig before w (BadNumber at) = Behind before at × StuckAt before w × ((s : List ℕ) × ((w ≡ Some (a_number s)) ⊎ (w ≡ Some (an_instrument s))))
-TextRefused sig before w (Unexpected at) = Behind before at × StuckAt before w
-TextRefused sig before w (Undeclared at) = Behind before at × StuckAt before w × ((s : List ℕ) × (w ≡ Some (a_name s)) × (found sig s ≡ None))
-TextRefused sig before w (WrongArity at) = Miscounted sig before w at × StuckAt before w
-TextRefused sig before w (PastLimit at) = Behind before at × BeyondLimit before × ((k : Tok) × (w ≡ Some k) × (symbol k ≡ 1))
+-- when a fault applies to what is wrong behind these tokens
+abbrev pub TextApplies : List Tok → Wrong → TextFault → Type 0
+TextApplies before w (Stray at) = Behind before at × ((b : ℕ) × (w ≡ Some (a_stray b)))
+TextApplies before w (BadNumber at) = Behind before at × (IllNumbered w ⊎ OutOfRange before w)
+TextApplies before w (Unexpected at) = Behind before at × NotAllowed before w
+TextApplies before w (Undeclared at) = Behind before at × NotDeclared before w
+TextApplies before w (WrongArity at) = (z : InSide before) × Miscounted z.sheet.operators (front_of_side z.sheet z.hand) z.side w at
+TextApplies before w (PastLimit at) = Behind before at × BeyondLimit before × ((k : Tok) × (w ≡ Some k) × (symbol k ≡ 1))
 
-abbrev pub RefusedFor : Sig → List Tok → Wrong → SheetFault → Type 0
-RefusedFor sig before w (Text f) = TextRefused sig before w f
-RefusedFor sig before w (Repeated at) = Behind before at × StuckAt before w × ((names : Sig) × (s : List ℕ) × (f : ℕ) × (before ≡ names_on names) × (w ≡ Some (a_name s)) × (found names s ≡ Some f))
-RefusedFor sig before w (Headless at) = Behind before at × StuckAt before w × WholeSheet before
-RefusedFor sig before w (Doubled at) = Behind before at × StuckAt before w × ((x : ℕ) × (w ≡ Some (a_variable x)) × InLeft x before)
-RefusedFor sig before w (Unbound at) = Behind before at × StuckAt before w × ((x : ℕ) × (w ≡ Some (a_variable x)) × NotInLeft x before)
+abbrev pub Applies : List Tok → Wrong → SheetFault → Type 0
+Applies before w (Text f) = TextApplies before w f
+Applies before w (Repeated at) = Behind before at × Twice before w
+Applies before w (Headless at) = Behind before at × NoOperator before w
+Applies before w (Doubled at) = Behind before at × ((x : ℕ) × (w ≡ Some (a_variable x)) × InLeft x before)
+Applies before w (Unbound at) = Behind before at × ((x : ℕ) × (w ≡ Some (a_variable x)) × NotInLeft x before)
 
--- the first wrong token decides, or the first one past a limit: what stands before it begins the text of a sheet, and no symbol there is past a limit
+-- the order in which faults go: those of the text first, a limit as the last of them
+abbrev pub rank : SheetFault → ℕ
+rank (Text f) = text_rank f
+rank (Repeated at) = 7
+rank (Headless at) = 8
+rank (Doubled at) = 9
+rank (Unbound at) = 10
+
+-- the first wrong token decides, or the first one past a limit: what stands before it begins a sheet's text and has no symbol past a limit; no sheet goes on with it, unless it is refused for a limit; and of the faults that apply to it the one that goes first is given
 pub record FirstWrong (b : List ℕ) (f : SheetFault) : Type 0 where
   pub before : ℕ
-  pub sheet : Sheet
-  pub shaped : SheetShaped sheet
-  pub rest : List Tok
-  pub begins : tokens (sheet_text sheet) ≡ take before (tokens b) ++ rest
+  pub begins : Begins (take before (tokens b))
   pub none_before : NoneBeyond (take before (tokens b))
-  pub refused : RefusedFor sheet.operators (take before (tokens b)) (first_of (drop before (tokens b))) f
+  pub stuck : rank f ≢ 6 → StuckAt (take before (tokens b)) (first_of (drop before (tokens b)))
+  pub applies : Applies (take before (tokens b)) (first_of (drop before (tokens b))) f
+  pub goes_first : (g : SheetFault) → Applies (take before (tokens b)) (first_of (drop before (tokens b))) g → rank f ≤ rank g
 
 -- an accepted text is the text of the sheet that is read, which is within the limits; a refused one is too long, or has a first wrong token
 abbrev pub Explained : List ℕ → Result Sheet SheetFault → Type 0

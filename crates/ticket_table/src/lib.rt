@@ -6,8 +6,9 @@ pub mod cases;
 #[cfg(test)]
 mod tests {
     use crate::cases::{CASES, FRONTS, LONG};
+    use console::answer::write_answer;
     use console::line::{Ending, Line};
-    use console::reply::{reply, write_reply};
+    use console::reply::reply;
     use reading::refusal::{Layer, Refusal};
     use signature::Signature;
     use std::alloc::{AllocError, Global};
@@ -116,8 +117,8 @@ mod tests {
             (None, b""),
         ];
         for (ending, bytes) in expected {
-            assert_eq!(rt; line.read_from(&mut reader)?, ending);
-            assert_eq!(rt; line.text(), Some(bytes));
+            assert_eq!(rt; line.read_line(&mut reader)?, ending);
+            assert_eq!(rt; line.bytes(), Some(bytes));
         }
         Ok(())
     }
@@ -149,11 +150,11 @@ mod tests {
         };
         let mut reader = BufReader::with_capacity(rt.alloc(), 3, failing)?;
         let mut line = Line::new();
-        assert_eq!(rt; line.read_from(&mut reader)?, Some(Ending::LineEnd));
-        assert!(rt; line.read_from(&mut reader).is_err());
-        assert_eq!(rt; line.text(), Some(b"neg(".as_slice()));
-        assert!(rt; line.read_from(&mut reader).is_err());
-        assert_eq!(rt; line.text(), Some(b"".as_slice()));
+        assert_eq!(rt; line.read_line(&mut reader)?, Some(Ending::LineEnd));
+        assert!(rt; line.read_line(&mut reader).is_err());
+        assert_eq!(rt; line.bytes(), Some(b"neg(".as_slice()));
+        assert!(rt; line.read_line(&mut reader).is_err());
+        assert_eq!(rt; line.bytes(), Some(b"".as_slice()));
         Ok(())
     }
 
@@ -165,7 +166,7 @@ mod tests {
         for text in ["neg(#7)", "neg(#7"] {
             line.clear();
             let _ = line.take(text.as_bytes());
-            write_reply(&mut out, reply(&signature, &line, &mut [0; 4096]))?;
+            write_answer(&mut out, reply(&signature, &line, &mut [0; 4096]))?;
         }
         assert_eq!(rt;
             out.as_slice(),

@@ -1,5 +1,5 @@
-use Rattle.machine.proofs.Reducing.{reduction_reduces}
+use Rattle.machine.proofs.Reducing.{reductions_fixed}
 use Rattle.machine.proofs.laws.reductions_are_fixed.Goals as goal
 
 pub returns : goal.returns
-returns c = reduction_reduces
+returns c = reductions_fixed

@@ -1,7 +1,7 @@
 use Rattle.std.proofs.Common.{rules, None}
 use Rattle.terms.specs.Term.{instrument}
 use Rattle.reading.specs.Reading.{has}
-use Rattle.sheet_reader.proofs.Leaves.{instrument_begun}
+use Rattle.sheet_reader.proofs.Symbols.{instrument_begun}
 use Rattle.sheet_reader.proofs.side.SideReader.instrument.Goals as goal
 
 pub returns-in_err-check_front-clause-reads : goal.returns-in_err-check_front-clause-reads

@@ -1,7 +1,7 @@
 use Rattle.std.proofs.Common.{rules, None}
 use Rattle.terms.specs.Term.{variable}
 use Rattle.reading.specs.Reading.{wants, has}
-use Rattle.sheet_reader.proofs.Leaves.{variable_begun, variable_keeps}
+use Rattle.sheet_reader.proofs.Symbols.{variable_begun, variable_keeps}
 use Rattle.sheet_reader.proofs.side.SideReader.variable.Goals as goal
 
 pub returns-in_err-check_front-clause-reads : goal.returns-in_err-check_front-clause-reads
