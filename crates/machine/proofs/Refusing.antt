@@ -10,7 +10,7 @@ use Rattle.reading.specs.Reading.{read_ticket}
 use Rattle.machine.specs.Refusals.{no_room, too_short}
 use Rattle.machine.specs.Machine.{System, Entry, empty, held, Machine, free_nodes}
 use Rattle.machine.specs.Reducing.{Reduced}
-use Rattle.machine.specs.Calls.{enter, reduce, show, strike, free, Answer, entered, reduced, shown, struck, counted, refused, Outcome, with_answer, with_entry, enter_ticket, enter_read, reduce_entry, show_text, show_entry, strike_entry}
+use Rattle.machine.specs.Calls.{enter, reduce, show, strike, free, entered, reduced, shown, struck, refused, Outcome, with_answer, with_entry, enter_ticket, enter_read, reduce_entry, show_text, show_entry, strike_entry}
 use Rattle.machine.specs.Laws.{RefusedStay}
 
 -- an outcome that changes nothing, if it is a refusal
@@ -31,13 +31,13 @@ struck_refused e = cc
 
 module _ (s : System) (m : Machine) where
   ticket_stays : (e : ℕ) (t : Term) (o : Option Entry) → Stays m [] (enter_ticket s m e t o)
-  ticket_stays e t None r q = (refl, refl)
-  ticket_stays e t (Some (held u n f)) r q = (refl, refl)
+  ticket_stays e t None = λ r q. (refl, refl)
+  ticket_stays e t (Some (held u n f)) = λ r q. (refl, refl)
   ticket_stays e t (Some empty) =
       cond_both (nat_le (symbols t) (free_nodes s m)) (with_entry m e (held t 0 false) entered) (with_answer m (refused (no_room (symbols t) (free_nodes s m)))) (Stays m []) (λ p r q. absurd (entered_refused q)) (λ p r q. (refl, refl))
 
   read_stays : (e : ℕ) (o : Result Term TextFault) → Stays m [] (enter_read s m e o)
-  read_stays e (Err f) r q = (refl, refl)
+  read_stays e (Err f) = λ r q. (refl, refl)
   read_stays e (Ok t) = ticket_stays e t (slice_get m.entries e)
 
   reduce_stays : (e allowed : ℕ) (o : Option Entry) → Stays m [] (reduce_entry s m e allowed o)
@@ -50,8 +50,8 @@ module _ (s : System) (m : Machine) where
       cond_both {A = Outcome} (nat_le (length text) (length buffer)) (record { machine = m; answer = shown (length text); buffer = text ++ drop (length text) buffer }) (record { machine = m; answer = refused (too_short e); buffer = buffer }) (Stays m buffer) (λ p r q. absurd (shown_refused q)) (λ p r q. (refl, refl))
 
   show_stays_so : (e : ℕ) (buffer : List ℕ) (o : Option Entry) → Stays m buffer (show_entry s m e buffer o)
-  show_stays_so e buffer None r q = (refl, refl)
-  show_stays_so e buffer (Some empty) r q = (refl, refl)
+  show_stays_so e buffer None = λ r q. (refl, refl)
+  show_stays_so e buffer (Some empty) = λ r q. (refl, refl)
   show_stays_so e buffer (Some (held t n f)) = text_stays e (text_of s.operators (run s.rules n t)) buffer
 
   strike_stays : (e : ℕ) (o : Option Entry) → Stays m [] (strike_entry m e o)
