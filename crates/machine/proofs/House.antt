@@ -145,6 +145,8 @@ worked_admissions = record {
   the_house_sheet = house_admitted;
   different = tested (omega arith) two_ways_lighten refl;
   added_swap = unoriented (omega arith) 6 (record { known = omega arith; outside = swap_stays; earlier = earlier }) refl;
+  sixteen_nodes = tested (omega arith) house_lightens refl;
+  fifteen_nodes = tested (omega arith) house_lightens refl;
   no_nodes = tested (omega arith) house_lightens refl;
   too_long = no_pool (omega arith) refl;
 }

@@ -9,3 +9,4 @@ pub mod House
 pub mod Overlapping
 pub mod History
 pub mod Sides
+pub mod Refusing

@@ -94,6 +94,14 @@ call s m (show e buffer) = show_entry s m e buffer (slice_get m.entries e)
 call s m (strike e) = strike_entry m e (slice_get m.entries e)
 call s m free = with_answer m (counted (free_nodes s m))
 
+-- the buffer that a call is given: a show's own, and none for other calls
+abbrev pub buffer_given : Call → List ℕ
+buffer_given (enter e text) = []
+buffer_given (reduce e allowed) = []
+buffer_given (show e buffer) = buffer
+buffer_given (strike e) = []
+buffer_given free = []
+
 -- the machine after a list of calls, refused ones included
 abbrev pub after : System → Machine → List Call → Machine
 after s m [] = m

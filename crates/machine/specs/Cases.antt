@@ -94,6 +94,9 @@ pub record WorkedAdmissions : Type 0 where
   pub the_house_sheet : admits house_values 4096 house_rules None
   pub different : admits falling_values 4096 two_ways (Some (different_ends 0 1))
   pub added_swap : admits house_values 4096 (house_rules ++ swap ∷ []) (Some (not_oriented 6))
+  -- of the overlap of rules 2 and 5 both sides end with 8 symbols: in 16 nodes the second fits beside the first, in 15 it is short
+  pub sixteen_nodes : admits house_values 16 house_rules None
+  pub fifteen_nodes : admits house_values 15 house_rules (Some (side_short 2 5))
   -- no overlap can be tested in a pool without nodes; a pool too long is refused before all else
   pub no_nodes : admits house_values 0 house_rules (Some (side_short 0 0))
   pub too_long : admits house_values 16385 (house_rules ++ swap ∷ []) (Some (wrong_length 16385))

@@ -8,7 +8,7 @@ use Rattle.rewriting.specs.Convergent.{Convergent}
 use Rattle.reading.specs.declared.refusal.Refusal.{Refusal}
 use Rattle.machine.specs.Machine.{System, Machine, opened}
 use Rattle.machine.specs.Reducing.{Reduced, reduction, IsReduction}
-use Rattle.machine.specs.Calls.{Call, Answer, after, answers_to}
+use Rattle.machine.specs.Calls.{Call, Answer, refused, call, buffer_given, after, answers_to}
 use Rattle.machine.specs.History.{HeldSince}
 use Rattle.machine.specs.Admission.{Admission, admission, sides_refusal}
 use Rattle.machine.specs.Sides.{SidesAnswer}
@@ -38,6 +38,10 @@ OneAdmission strict = (nodes : ℕ) (rules : List Rule) (a b : Option Refusal) �
 -- rules that are admitted under an order with this strict set are convergent
 abbrev pub AdmittedConverge : (Rule → Type 0) → Type 0
 AdmittedConverge strict = (sig : Sig) → Declared sig → (rules : List Rule) → RulesOf sig rules → (nodes : ℕ) → Admission strict nodes rules None → Convergent sig rules
+
+-- a refused call leaves the machine as it is, and the buffer that it was given
+abbrev pub RefusedStay : Type 0
+RefusedStay = (s : System) (m : Machine) (c : Call) (r : Refusal) → (call s m c).answer ≡ refused r → ((call s m c).machine ≡ m) × ((call s m c).buffer ≡ buffer_given c)
 
 -- in a machine opened on any numbers of nodes and entries, an entry holds just what the calls and answers since then tell
 abbrev pub HistoryTells : Type 0

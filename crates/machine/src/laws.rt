@@ -1,11 +1,16 @@
 // Theorems about the machine.
 ghost use Rattle.machine.specs.Machine.{Machine};
-ghost use Rattle.machine.specs.Laws.{HistoryTells, ReductionsFixed, ConvergentKeep, SessionsKeep, FollowersKeep};
+ghost use Rattle.machine.specs.Laws.{RefusedStay, HistoryTells, ReductionsFixed, ConvergentKeep, SessionsKeep, FollowersKeep};
 ghost use Rattle.machine.specs.Cases.{Worked, WorkedAdmissions, HouseKeeps};
 
 // A reduction makes the next steps that are allowed and possible, and that fixes how many, and why no more.
 pub fn reductions_are_fixed()
     ensures { ReductionsFixed }
+{}
+
+// A refused call changes nothing.
+pub fn refused_calls_stay()
+    ensures { RefusedStay }
 {}
 
 // An entry holds just what the calls and their answers tell.
