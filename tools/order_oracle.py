@@ -4,16 +4,20 @@
     tools/order_oracle.py < SHEET              a line `read N`, and for each rule `rule I falls`, `rule I holds` or `rule I no`
     tools/order_oracle.py --weights < SHEET    and the weights of both sides of each rule, by both weighings
     tools/order_oracle.py table                compares the table of crates/order_table with it
+    tools/order_oracle.py program [N]          compares crates/book/out/book with it on N sheets of tools/order_cases.py (2,000)
 
 It knows nothing of the crates: it is there to be compared with them. Sheets are read by tools/sheet_oracle.py.
 """
+import collections
 import os
 import re
+import subprocess
 import sys
 
 # leaves nothing behind in tools/
 sys.dont_write_bytecode = True
 
+import order_cases
 import sheet_oracle
 
 TOP = os.path.dirname(os.path.dirname(os.path.abspath(__file__)))
@@ -142,8 +146,28 @@ def compare_table():
     return 1 if wrong or not cases else 0
 
 
+# The program
+
+
+def compare_program(sheets):
+    program = os.path.join(TOP, "crates/book/out/book")
+    counts, wrong = collections.Counter(), 0
+    for seed in range(sheets):
+        text = order_cases.sheet(seed).encode()
+        expected = answers(text)
+        found = subprocess.run([program], input=text + b".\n", capture_output=True, check=True).stdout.decode().splitlines()
+        counts.update(line.split()[-1] for line in expected[1:])
+        if found != expected:
+            wrong += 1
+            print(f"sheet {seed}: found {found}, expected {expected}")
+    print(f"{sheets} sheets, {wrong} wrong; rules: " + ", ".join(f"{n} {word}" for word, n in sorted(counts.items())))
+    return 1 if wrong or not counts else 0
+
+
 if __name__ == "__main__":
     if sys.argv[1:] == ["table"]:
         sys.exit(compare_table())
+    if sys.argv[1:2] == ["program"]:
+        sys.exit(compare_program(int(sys.argv[2]) if sys.argv[2:] else 2000))
     data, _ = sheet_oracle.split_input(sys.stdin.buffer.read())
     print("\n".join(answers(data, "--weights" in sys.argv[1:])))
