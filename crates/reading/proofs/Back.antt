@@ -10,7 +10,7 @@ use Rattle.reading.specs.Tokens.{Tok, a_name, a_mark, tokens, past, an_instrumen
 use Rattle.reading.specs.Reading.{Context, within, State, wants, opens, has, and_then, named, with_name, with_number, step}
 use Rattle.reading.specs.Laws.{further_arguments, arguments_so_far}
 use Rattle.reading.proofs.Digits.{numbered_decimal}
-use Rattle.reading.proofs.Names.{found_name}
+use Rattle.terms.proofs.Names.{found_name}
 use Rattle.terms.proofs.Readable.{ticket_term, tickets_terms}
 use Rattle.reading.proofs.Lexing.{closing, tokens_term}
 use Rattle.reading.proofs.Running.{reach, passed, reach_join, reach_with, then_reach}

@@ -13,7 +13,7 @@ use Rattle.reading.proofs.Lines.{follow, line, name_tok, count_tok, heading_toke
 use Rattle.reading.specs.Heading.{Head, Outcome, named_once, counted, head_step}
 use Rattle.reading.specs.Reading.{chain}
 use Rattle.reading.proofs.Running.{reach_with, Leads}
-use Rattle.reading.proofs.Names.{found_is}
+use Rattle.terms.proofs.Names.{found_is}
 use Rattle.std.specs.Str.{bytes_eq}
 
 -- a count of the operator behind the first ones

@@ -1,6 +1,5 @@
 pub mod Equal
 pub mod Digits
-pub mod Names
 pub mod Tokens
 pub mod Lexing
 pub mod Running

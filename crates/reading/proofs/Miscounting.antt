@@ -53,18 +53,18 @@ miscount (wants k) w = None
 miscount (opens f a n k) w = Some a
 miscount (has t m k) w = has_count w m k
 
-abbrev Counted : State → Wrong → Type 0
+abbrev pub Counted : State → Wrong → Type 0
 Counted s w = (a : At) × (miscount s w ≡ Some a)
 
-no_terms : (t : Term) (ts : Terms) → cons t ts ≡ nil → ⊥
+pub no_terms : (t : Term) (ts : Terms) → cons t ts ≡ nil → ⊥
 no_terms t ts e = omega (arith, ap how_many e)
 
 -- what holds of the state behind some tokens holds of this one
-counted_there : (v s : State) (w x : Wrong) (r : Result State TextFault) → Counted v x → r ≡ Ok v → r ≡ Ok s → w ≡ x → Counted s w
+pub counted_there : (v s : State) (w x : Wrong) (r : Result State TextFault) → Counted v x → r ≡ Ok v → r ≡ Ok s → w ≡ x → Counted s w
 counted_there v s w x r c p q e = subst (λ y. Counted y w) (same_ok (sym p ∙ q)) (subst (Counted v) (sym e) c)
 
 -- and what holds behind any arguments
-counted_behind : (f : ℕ) (a : At) (j : ℕ) (k : Context) (ts : Terms) (s : State) (w x : Wrong) (r : Result State TextFault)
+pub counted_behind : (f : ℕ) (a : At) (j : ℕ) (k : Context) (ts : Terms) (s : State) (w x : Wrong) (r : Result State TextFault)
     → ((us : Terms) (u : Term) (m : Option At) → Counted (has u m (within f a us j k)) x) → ComesTo r f a j k ts → r ≡ Ok s → w ≡ x → Counted s w
 counted_behind f a j k ts s w x r c h e q = let (us, u, m, z, p) = h in counted_there (has u m (within f a us j k)) s w x r (c us u m) p e q
 

@@ -13,7 +13,7 @@ use Rattle.reading.specs.Numbers.{instrument_number}
 use Rattle.reading.specs.Reading.{Context, top, within, State, wants, opens, has, and_then, named, with_name, with_number, closed, continued, on_opens_mark, on_has_mark, step}
 use Rattle.reading.specs.Laws.{Behind}
 use Rattle.reading.proofs.Digits.{instrument_is}
-use Rattle.reading.proofs.Names.{found_is}
+use Rattle.terms.proofs.Names.{found_is}
 use Rattle.reading.proofs.Tokens.{Lexed}
 use Rattle.reading.proofs.Growing.{name_alone, tokens_number, tokens_opened, tokens_closed, tokens_continued}
 use Rattle.terms.proofs.Readable.{ticket_term}

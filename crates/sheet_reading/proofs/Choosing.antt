@@ -39,7 +39,8 @@ use Rattle.sheet_reading.proofs.Ruling.{Early, place}
 use Rattle.sheet_reading.proofs.Telling.{Told, tells}
 use Rattle.sheet_reading.proofs.Completing.{left_of, begun_rule, begins, one_more_name}
 use Rattle.sheet_reading.proofs.Stuck.{is_behind, goes_on, stuck}
-use Rattle.sheet_reading.proofs.Miscounting.{Counted, miscounted_shows}
+use Rattle.reading.proofs.Miscounting.{Counted}
+use Rattle.sheet_reading.proofs.Miscounting.{miscounted_shows}
 use Rattle.sheet_reading.proofs.Beyond.{SameHand, line_ended, front_ended, rule_ended, early_in_side, stands_in, early}
 use Rattle.sheet_reading.proofs.Ranking.{Ranks, ranks_on, early_rank, rank_most, by_stand, ranks_value, ranks_rule, stray_rank, number_rank, instrument_rank, fault_rank, opens_low, has_low, side_low, dull_rank, symbol_rank, term_name, term_number, term_variable, first_name, name_rank, front_rank, left_rank}
 use Rattle.sheet_reading.proofs.Numbering.{place_of, takes_number, number_taken, range_rank, number_elsewhere, may_number}

@@ -1,5 +1,5 @@
 -- When a token of a side shows a wrong count of arguments: the side is read without its limits, and with variables anywhere.
-use Rattle.std.proofs.Common.{◌≡◌, ℕ, zero, suc, ◌+◌, ◌-◌, ◌<◌, ltb, List, ◌∷◌, length, Some, None, Ok, Err, Option, Result, sym, refl, ap, ◌∙◌, subst, arith}
+use Rattle.std.proofs.Common.{◌≡◌, ℕ, zero, suc, ◌+◌, ◌-◌, ◌<◌, ltb, List, ◌∷◌, length, Some, None, Ok, Err, Result, sym, refl, ap, ◌∙◌, subst, arith}
 use Rattle.std.proofs.lemmas.Bool.{cond_both}
 use Rattle.terms.specs.Term.{Term, variable, apply, Terms, nil, cons, how_many}
 use Rattle.terms.specs.Signature.{Sig, op_of, Declared}
@@ -15,7 +15,7 @@ use Rattle.reading.proofs.Digits.{numbered_decimal}
 use Rattle.reading.proofs.Equal.{not_both, same_ok}
 use Rattle.reading.proofs.Running.{passed, reach_with, reach_split, reach_first}
 use Rattle.reading.proofs.Back.{ComesTo, Readable, reads_first, name_step}
-use Rattle.reading.proofs.Miscounting.{miscount}
+use Rattle.reading.proofs.Miscounting.{Counted, no_terms, counted_there, counted_behind}
 use Rattle.reading.proofs.States.{name_of}
 use Rattle.reading.specs.declared.fault.SheetFault.{SheetFault}
 use Rattle.sheet_reading.specs.Sheet.{Limits}
@@ -80,21 +80,6 @@ freed m sig rules d (opens f a n c) at k u e = text_ok (on_opens k at f a n c) u
 freed m sig rules d (has t b c) at k u e = text_ok (on_has k at t b c) u e
 
 -- wrong counts
-
-abbrev pub Counted : State → Wrong → Type 0
-Counted s w = (a : At) × (miscount s w ≡ Some a)
-
-no_terms : (t : Term) (ts : Terms) → cons t ts ≡ nil → ⊥
-no_terms t ts e = omega (arith, ap how_many e)
-
--- what holds of the state behind some tokens holds of this one
-counted_there : (v s : State) (w x : Wrong) (r : Result State TextFault) → Counted v x → r ≡ Ok v → r ≡ Ok s → w ≡ x → Counted s w
-counted_there v s w x r c p q e = subst (λ y. Counted y w) (same_ok (sym p ∙ q)) (subst (Counted v) (sym e) c)
-
--- and what holds behind any arguments
-counted_behind : (f : ℕ) (a : At) (j : ℕ) (k : Context) (ts : Terms) (s : State) (w x : Wrong) (r : Result State TextFault)
-    → ((us : Terms) (u : Term) (m : Option At) → Counted (has u m (within f a us j k)) x) → ComesTo r f a j k ts → r ≡ Ok s → w ≡ x → Counted s w
-counted_behind f a j k ts s w x r c h e q = let (us, u, m, z, p) = h in counted_there (has u m (within f a us j k)) s w x r (c us u m) p e q
 
 module _ {sig : Sig} (good : Declared sig) where
   abbrev reach : State → At → List Tok → Result State TextFault

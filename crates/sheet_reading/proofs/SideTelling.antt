@@ -16,7 +16,7 @@ use Rattle.reading.specs.Reading.{Context, top, within, State, wants, opens, has
 use Rattle.reading.specs.Laws.{Wrong, ShowsCount, needless_opening, missing_opening}
 use Rattle.reading.proofs.Equal.{same_some}
 use Rattle.reading.proofs.Digits.{instrument_is}
-use Rattle.reading.proofs.Names.{found_is}
+use Rattle.terms.proofs.Names.{found_is}
 use Rattle.reading.proofs.States.{name_of, stack_tokens, state_tokens, PlacedOf}
 use Rattle.reading.specs.declared.fault.SheetFault.{SheetFault}
 use Rattle.reading.specs.declared.fault.SheetFault.TheVariants.{Headless}

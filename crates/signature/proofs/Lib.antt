@@ -1,2 +1,1 @@
 pub mod Operators
-mod Names

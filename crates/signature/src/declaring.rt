@@ -61,7 +61,7 @@ impl Signature {
     }
 
     // The operator of a name.
-    #[tactic(auto, using(crate::proofs::Names::found_there))]
+    #[tactic(auto, using(terms::proofs::Names::found_there))]
     pub fn find(&self, name: &[u8]) -> Option<u8>
         ensures { result ≡ found (sig_of self.now) name.now }
     {

@@ -5,3 +5,4 @@ pub mod Standing
 pub mod Laying
 pub mod Offs
 pub mod Ascii
+pub mod Names

@@ -9,6 +9,7 @@ mod tests {
     use console::answer::write_answer;
     use console::line::{Ending, Line};
     use console::reply::reply;
+    use console::sheet_text::SheetText;
     use reading::refusal::{Layer, Refusal};
     use signature::Signature;
     use std::alloc::{AllocError, Global};
@@ -155,6 +156,29 @@ mod tests {
         assert_eq!(rt; line.bytes(), Some(b"neg(".as_slice()));
         assert!(rt; line.read_line(&mut reader).is_err());
         assert_eq!(rt; line.bytes(), Some(b"".as_slice()));
+        Ok(())
+    }
+
+    #[test]
+    fn a_sheet_is_read_up_to_a_dot(rt: HostRuntime) -> Result<(), Fail> {
+        let input: &[u8] = b"nil\n..\n.\nneg(nil)";
+        let mut reader = BufReader::with_capacity(rt.alloc(), 3, input)?;
+        let mut text = SheetText::new();
+        text.read_sheet(&mut reader)?;
+        assert_eq!(rt; text.bytes(), Some(b"nil\n..\n".as_slice()));
+        let mut line = Line::new();
+        assert_eq!(rt; line.read_line(&mut reader)?, Some(Ending::InputEnd));
+        assert_eq!(rt; line.bytes(), Some(b"neg(nil)".as_slice()));
+        Ok(())
+    }
+
+    #[test]
+    fn a_failing_reader_ends_a_sheet_with_its_error(rt: HostRuntime) -> Result<(), Fail> {
+        let failing = Failing { bytes: b"nil\nneg" };
+        let mut reader = BufReader::with_capacity(rt.alloc(), 3, failing)?;
+        let mut text = SheetText::new();
+        assert!(rt; text.read_sheet(&mut reader).is_err());
+        assert_eq!(rt; text.bytes(), Some(b"nil\n".as_slice()));
         Ok(())
     }
 

@@ -1,5 +1,5 @@
 -- A declared name is found under its operator's number.
-use Rattle.std.proofs.Common.{◌≡◌, ℕ, zero, suc, ◌+◌, ◌<◌, List, [], ◌∷◌, length, Some, None, Option, refl, ap, ◌∙◌, subst, inl, inr, arith}
+use Rattle.std.proofs.Common.{◌≡◌, ℕ, zero, suc, ◌+◌, ◌<◌, List, [], ◌∷◌, length, Some, None, Option, refl, sym, ap, ◌∙◌, subst, inl, inr, arith}
 use Rattle.std.specs.Str.{bytes_eq}
 use Rattle.std.proofs.lemmas.Bool.{cond_both, cond-true, cond-false, cases_Bool}
 use Rattle.std.proofs.lemmas.Slice.Eq.{bytes_eq-Decides}
@@ -40,3 +40,7 @@ found_at i (o ∷ sig) s (suc f) h e u =
 -- an operator is found by its name
 pub found_name : {sig : Sig} → Declared sig → (f : ℕ) → f < length sig → found sig (op_of sig f).name ≡ Some f
 found_name {sig} good f h = found_at 0 sig (op_of sig f).name f h refl (λ g l q. good.are_apart g f (l, h, q)) ∙ ap Some (omega arith)
+
+-- and that is what the search answers
+pub found_there : (sig : Sig) (s : List ℕ) (f : ℕ) → Declared sig → f < length sig → (op_of sig f).name ≡ s → Some f ≡ found sig s
+found_there sig s f good h e = subst (λ x. Some f ≡ found sig x) e (sym (found_name good f h))
