@@ -1,0 +1,5 @@
+pub mod Placing
+pub mod Standing
+pub mod Sounding
+pub mod Helds
+pub mod Givings

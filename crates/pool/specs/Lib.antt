@@ -1,0 +1,3 @@
+pub mod Memory
+pub mod Placed
+pub mod Sound
