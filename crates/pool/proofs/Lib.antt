@@ -3,3 +3,4 @@ pub mod Standing
 pub mod Sounding
 pub mod Helds
 pub mod Givings
+pub mod Turning

@@ -1,3 +1,4 @@
 pub mod Memory
 pub mod Placed
 pub mod Sound
+pub mod Work

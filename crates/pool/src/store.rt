@@ -1,9 +1,12 @@
-ghost use Rattle.std.specs.Prelude.{◌≡◌, ◌+◌, ◌<◌, ◌^◌, length, slice_index_or, slice_set, replicate, Some, None};
+ghost use Rattle.std.specs.Prelude.{◌≡◌, ◌+◌, ℕ, ◌<◌, ◌≤◌, ◌^◌, length, slice_index_or, slice_set, replicate, Some, None};
 ghost use Rattle.terms.specs.Nodes.{vacant, along};
 ghost use Rattle.pool.specs.Memory.{memory, cleared, written, given};
+ghost use Rattle.pool.specs.Placed.{Placed, link, Held};
+ghost use Rattle.pool.specs.Work.{Work, Turned, turned, reused, opened, FirstUnused, Joined};
 ghost use Rattle.pool.specs.Sound.{leads};
 
 use terms::node::Node;
+use terms::symbol::Symbol;
 
 // Lent nodes. Those from `fresh` on are vacant and were never in use; `freed` begins a row of nodes that were given back, each with
 // all that hangs below it.
@@ -18,8 +21,7 @@ pub struct Store<'n> {
 impl<'n> Store<'n> {
     // With every node vacant.
     pub fn new(nodes: &'n mut [Node]) -> Store<'n>
-        ensures same { result.nodes.ghost_name ≡ nodes.entry.ghost_name }
-        ensures memory { memory result ≡ cleared (length nodes.old) }
+        ensures { memory result ≡ cleared (length nodes.old) }
     {
         let free = nodes.len();
         nodes.fill(Node::VACANT);
@@ -33,8 +35,7 @@ impl<'n> Store<'n> {
 
     // Makes every node vacant.
     pub fn clear(&mut self)
-        ensures same { self.new.nodes.ghost_name ≡ self.old.nodes.ghost_name }
-        ensures memory { memory self.new ≡ cleared (length self.old.nodes.now) }
+        ensures { memory self.new ≡ cleared (length self.old.nodes.now) }
     {
         self.nodes.fill(Node::VACANT);
         self.fresh = 0;
@@ -83,8 +84,7 @@ impl<'n> Store<'n> {
 
     // Puts a node at a place; where there is none, nothing changes.
     pub fn put(&mut self, place: u16, node: Node)
-        ensures same { self.new.nodes.ghost_name ≡ self.old.nodes.ghost_name }
-        ensures memory { memory self.new ≡ written (memory self.old) place node }
+        ensures { memory self.new ≡ written (memory self.old) place node }
     {
         let at = usize::from(place);
         if at < self.nodes.len() {
@@ -95,8 +95,7 @@ impl<'n> Store<'n> {
     // Frees the n nodes of the term at a place.
     pub fn give(&mut self, place: u16, n: usize)
         requires { (memory self.old).free + n < 2 ^ 64 }
-        ensures same { self.new.nodes.ghost_name ≡ self.old.nodes.ghost_name }
-        ensures memory { memory self.new ≡ given (memory self.old) place n }
+        ensures { memory self.new ≡ given (memory self.old) place n }
     {
         let first = self.node(place).first;
         let next = self.freed;
@@ -111,5 +110,83 @@ impl<'n> Store<'n> {
         );
         self.freed = Some(place);
         self.free += n;
+    }
+
+    // Makes a free node the first of a row: its arguments and its later siblings stand already. Nothing where no node is free.
+    pub fn join(&mut self, symbol: Symbol, first: Option<u16>, next: Option<u16>) -> Option<u16>
+        ensures { (h : Held) (a b g : Placed) → Work (memory self.old) h a b g → link a ≡ first → link b ≡ next → length (memory self.old).nodes ≤ 65536 → Joined (memory self.old) h (Some symbol) a b (memory self.new) result }
+    {
+        self.settle();
+        let symbol = Some(symbol);
+        let node = Node {
+            symbol,
+            first,
+            next,
+        };
+        if let Some(place) = self.freed {
+            self.reuse(place, node);
+            return Some(place);
+        }
+        let place = self.unused()?;
+        self.open(node);
+        Some(place)
+    }
+
+    // The place of the first node that was never in use, if there is one with a place number.
+    fn unused(&self) -> Option<u16>
+        ensures { FirstUnused (memory self.now) result }
+    {
+        if self.fresh >= self.nodes.len() {
+            return None;
+        }
+        u16::try_from(self.fresh).ok()
+    }
+
+    // Uses the first node of those given back, at this place.
+    fn reuse(&mut self, place: u16, node: Node)
+        ensures { memory self.new ≡ reused (memory self.old) place node }
+    {
+        self.freed = self.node(place).next;
+        self.free = self.free.saturating_sub(1);
+        self.put(place, node);
+    }
+
+    // Uses the first node that was never in use.
+    fn open(&mut self, node: Node)
+        requires { self.old.fresh < length self.old.nodes.now }
+        ensures { memory self.new ≡ opened (memory self.old) node }
+    {
+        let at = self.fresh;
+        self.fresh += 1;
+        self.free = self.free.saturating_sub(1);
+        self.nodes[at] = node;
+    }
+
+    // Turns the row of those given back until nothing hangs below its first node.
+    fn settle(&mut self)
+        ensures { (h : Held) (a b g : Placed) → Work (memory self.old) h a b g → Turned (memory self.old) h a b (memory self.new) 0 }
+    {
+        for _n in 0..self.free {
+            let Some(root) = self.freed else {
+                return;
+            };
+            let Some(low) = self.node(root).first else {
+                return;
+            };
+            self.turn(root, low);
+        }
+    }
+
+    // Puts the first of those given back behind what hangs first below it.
+    fn turn(&mut self, root: u16, low: u16)
+        ensures { memory self.new ≡ turned (memory self.old) root low }
+    {
+        let upper = self.node(root);
+        let lower = self.node(low);
+        let first = lower.next;
+        let next = Some(root);
+        self.put(root, Node { first, ..upper });
+        self.put(low, Node { next, ..lower });
+        self.freed = Some(low);
     }
 }

@@ -21,10 +21,10 @@ pub give-requires : goal.give-requires
 give-requires c = let l = ∥∥₁_elim c.args.self.now.sound le_prop (λ s. (gave _ s c.args.place c.in-Some.n c.if-not-is_root.ensures c.in-Some.ensures).few) in omega arith
 
 pub invariant_of-self : goal.invariant_of-self
-invariant_of-self c = record { sound = rw c.give.ensures.memory (∥∥₁_map c.args.self.now.sound (λ s. (gave _ s c.args.place c.in-Some.n c.if-not-is_root.ensures c.in-Some.ensures).sound)) }
+invariant_of-self c = record { sound = rw c.give.ensures (∥∥₁_map c.args.self.now.sound (λ s. (gave _ s c.args.place c.in-Some.n c.if-not-is_root.ensures c.in-Some.ensures).sound)) }
 
 pub returns-clause-held : goal.returns-clause-held
-returns-clause-held c = λ q. ap (λ m. held_at m.nodes q) c.give.ensures.memory ∙ ∥∥₁_elim c.args.self.now.sound (held_set _ _) (λ s. (gave _ s c.args.place c.in-Some.n c.if-not-is_root.ensures c.in-Some.ensures).held q)
+returns-clause-held c = λ q. ap (λ m. held_at m.nodes q) c.give.ensures ∙ ∥∥₁_elim c.args.self.now.sound (held_set _ _) (λ s. (gave _ s c.args.place c.in-Some.n c.if-not-is_root.ensures c.in-Some.ensures).held q)
 
 pub returns-clause-free : goal.returns-clause-free
-returns-clause-free c = ap (λ m. m.free) c.give.ensures.memory ∙ ∥∥₁_elim c.args.self.now.sound (ℕ_set _ _) (λ s. (gave _ s c.args.place c.in-Some.n c.if-not-is_root.ensures c.in-Some.ensures).free)
+returns-clause-free c = ap (λ m. m.free) c.give.ensures ∙ ∥∥₁_elim c.args.self.now.sound (ℕ_set _ _) (λ s. (gave _ s c.args.place c.in-Some.n c.if-not-is_root.ensures c.in-Some.ensures).free)

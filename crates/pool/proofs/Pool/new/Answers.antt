@@ -6,4 +6,4 @@ pub returns-then-nodes-gt-MOST-clause-none : goal.returns-then-nodes-gt-MOST-cla
 returns-then-nodes-gt-MOST-clause-none c = more _ (omega (arith, c.if-nodes-gt-MOST.true))
 
 pub invariant_of-result : goal.invariant_of-result
-invariant_of-result c = record { sound = ∣ as_cleared _ _ c.new-store.ensures.memory (most _ (omega (arith, c.if-nodes-gt-MOST.false))) ∣₁ }
+invariant_of-result c = record { sound = ∣ as_cleared _ _ c.new-store.ensures (most _ (omega (arith, c.if-nodes-gt-MOST.false))) ∣₁ }
