@@ -17,7 +17,7 @@ use Rattle.pool.proofs.Standing.{term_stands, term_size, hit_cases}
 use Rattle.pool.proofs.Helds.{Out, out, hit_yes, hit_none, unused_some, held_is}
 
 -- a held term is in the places of the held terms
-term_occ : (h : Held) (p : ℕ) → occs p h ≡ 0 → term_at h p ≡ None
+pub term_occ : (h : Held) (p : ℕ) → occs p h ≡ 0 → term_at h p ≡ None
 term_occ no_term p o = refl
 term_occ (also i s ks t h) p o = ap (λ c. cond c (Some t) (term_at h p)) (hit_none p i (omega arith)) ∙ term_occ h p (omega arith)
 

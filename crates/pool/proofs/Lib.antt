@@ -4,3 +4,7 @@ pub mod Sounding
 pub mod Helds
 pub mod Givings
 pub mod Turning
+pub mod Tracing
+pub mod Cutting
+pub mod Building
+pub mod Loadings

@@ -1,12 +1,12 @@
 -- Turning the row of nodes given back, and using its first node.
-use Rattle.std.proofs.Common.{◌≡◌, ◌≢◌, ℕ, zero, suc, ◌+◌, ◌-◌, ◌<◌, ◌≤◌, ◌==◌, cond, List, length, get_or, set, Some, None, Option, sym, refl, ap, ◌∙◌, subst, ⊎_elim, arith}
+use Rattle.std.proofs.Common.{◌≡◌, ◌≢◌, ℕ, ◌+◌, ◌-◌, ◌<◌, ◌≤◌, List, length, get_or, set, Some, None, Option, sym, refl, ap, ◌∙◌, subst, ⊎_elim, arith}
 use Rattle.std.proofs.lemmas.Bool.{cases_lt}
 use Rattle.std.proofs.lemmas.List.{get_or-set_same, get_or-set_other, length-set}
 use Rattle.terms.specs.declared.node.Node.{Node}
 use Rattle.terms.specs.declared.symbol.Symbol.{Symbol}
 use Rattle.terms.specs.Nodes.{vacant}
 use Rattle.pool.specs.Memory.{Memory}
-use Rattle.pool.specs.Placed.{Placed, none, at, link, Holds, hit, occ, size, Held, AllHeld, occs}
+use Rattle.pool.specs.Placed.{Placed, none, at, link, Holds, hit, occ, size, Held}
 use Rattle.pool.specs.Sound.{unused}
 use Rattle.pool.specs.Work.{Work, below, Turned, turned, reused, opened, FirstUnused, Joined}
 use Rattle.pool.proofs.Placing.{hit_self, no_hit, keep_set, keep_all_set}

@@ -1,10 +1,10 @@
 -- A pool while a term is made in it: beside the held terms stand two rows that are not held yet.
-use Rattle.std.specs.Prelude.{◌≡◌, ℕ, ◌+◌, ◌-◌, ◌<◌, ◌≤◌, min, List, length, Some, None, Option, slice_index_or, slice_set}
+use Rattle.std.specs.Prelude.{◌≡◌, ℕ, ◌+◌, ◌-◌, ◌<◌, ◌≤◌, min, length, Some, None, Option, slice_index_or, slice_set}
 use Rattle.terms.specs.declared.node.Node.{Node}
 use Rattle.terms.specs.declared.symbol.Symbol.{Symbol}
 use Rattle.terms.specs.Nodes.{vacant}
-use Rattle.pool.specs.Memory.{Memory, written}
-use Rattle.pool.specs.Placed.{Placed, none, at, link, Holds, occ, size, Held, AllHeld, occs, sizes}
+use Rattle.pool.specs.Memory.{Memory}
+use Rattle.pool.specs.Placed.{Placed, none, at, link, Holds, occ, size, Held, AllHeld, occs}
 use Rattle.pool.specs.Sound.{unused}
 
 -- each place is in exactly one held term or row, or given back, or was never in use, and the free nodes are counted
@@ -59,3 +59,11 @@ FirstUnused m (Some p) = (p ≡ m.fresh) × (p < length m.nodes)
 abbrev pub Joined : Memory → Held → Option Symbol → Placed → Placed → Memory → Option ℕ → Type 0
 Joined m h s a b k None = m.free ≡ 0
 Joined m h s a b k (Some i) = (g : Placed) × Work k h (at i s a b) none g × (k.free + 1 ≡ m.free) × (length k.nodes ≡ length m.nodes)
+
+-- that is so whatever terms are held, and whatever rows begin at the two links
+abbrev pub Joins : Memory → Symbol → Option ℕ → Option ℕ → Memory → Option ℕ → Type 0
+Joins m s first next k r = (h : Held) (a b g : Placed) → Work m h a b g → link a ≡ first → link b ≡ next → length m.nodes ≤ 65536 → Joined m h (Some s) a b k r
+
+-- nothing is below the first node of those given back, whatever is held beside them
+abbrev pub Settles : Memory → Memory → Type 0
+Settles m k = (h : Held) (a b g : Placed) → Work m h a b g → Turned m h a b k 0

@@ -1,4 +1,4 @@
-ghost use Rattle.std.specs.Prelude.{◌≡◌, ◌+◌, ◌==◌, ◌<◌, ◌≤◌, ℕ, cond, is_some, length, IfSome, IfNone, Some, None};
+ghost use Rattle.std.specs.Prelude.{◌≡◌, ◌+◌, ◌==◌, ◌<◌, ℕ, cond, is_some, length, IfSome, IfNone, None};
 ghost use Rattle.traversal.specs.Walks.{most_symbols};
 ghost use Rattle.pool.specs.Memory.{memory, cleared};
 ghost use Rattle.pool.specs.Sound.{held_at, symbols_of};

@@ -7,6 +7,7 @@ ghost use Rattle.pool.specs.Sound.{Sound};
 use store::Store;
 
 pub mod giving;
+pub mod loading;
 mod store;
 pub mod viewing;
 

@@ -1,8 +1,8 @@
-ghost use Rattle.std.specs.Prelude.{◌≡◌, ◌+◌, ℕ, ◌<◌, ◌≤◌, ◌^◌, length, slice_index_or, slice_set, replicate, Some, None};
+ghost use Rattle.std.specs.Prelude.{◌≡◌, ◌+◌, ◌<◌, ◌^◌, length, slice_index_or};
 ghost use Rattle.terms.specs.Nodes.{vacant, along};
 ghost use Rattle.pool.specs.Memory.{memory, cleared, written, given};
-ghost use Rattle.pool.specs.Placed.{Placed, link, Held};
-ghost use Rattle.pool.specs.Work.{Work, Turned, turned, reused, opened, FirstUnused, Joined};
+ghost use Rattle.pool.specs.Work.{Settles, turned, reused, opened, FirstUnused, Joins};
+ghost use Rattle.pool.specs.Loading.{ended, marked};
 ghost use Rattle.pool.specs.Sound.{leads};
 
 use terms::node::Node;
@@ -112,9 +112,29 @@ impl<'n> Store<'n> {
         self.free += n;
     }
 
+    // Takes the next sibling off the node at a place, and answers it.
+    pub fn end(&mut self, place: u16) -> Option<u16>
+        ensures memory { memory self.new ≡ ended (memory self.old) place }
+        ensures next { result ≡ (slice_index_or (memory self.old).nodes place vacant).next }
+    {
+        let node = self.node(place);
+        let next = None;
+        self.put(place, Node { next, ..node });
+        node.next
+    }
+
+    // Makes the node at a place its own next sibling.
+    pub fn mark(&mut self, place: u16)
+        ensures { memory self.new ≡ marked (memory self.old) place }
+    {
+        let node = self.node(place);
+        let next = Some(place);
+        self.put(place, Node { next, ..node });
+    }
+
     // Makes a free node the first of a row: its arguments and its later siblings stand already. Nothing where no node is free.
     pub fn join(&mut self, symbol: Symbol, first: Option<u16>, next: Option<u16>) -> Option<u16>
-        ensures { (h : Held) (a b g : Placed) → Work (memory self.old) h a b g → link a ≡ first → link b ≡ next → length (memory self.old).nodes ≤ 65536 → Joined (memory self.old) h (Some symbol) a b (memory self.new) result }
+        ensures { Joins (memory self.old) symbol first next (memory self.new) result }
     {
         self.settle();
         let symbol = Some(symbol);
@@ -164,7 +184,7 @@ impl<'n> Store<'n> {
 
     // Turns the row of those given back until nothing hangs below its first node.
     fn settle(&mut self)
-        ensures { (h : Held) (a b g : Placed) → Work (memory self.old) h a b g → Turned (memory self.old) h a b (memory self.new) 0 }
+        ensures { Settles (memory self.old) (memory self.new) }
     {
         for _n in 0..self.free {
             let Some(root) = self.freed else {

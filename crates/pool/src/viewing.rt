@@ -1,4 +1,3 @@
-ghost use Rattle.std.specs.Prelude.{◌≡◌, ℕ, ◌<◌, ◌≤◌};
 ghost use Rattle.terms.specs.Nodes.{node_answers};
 ghost use Rattle.pool.specs.Memory.{memory};
 
