@@ -103,3 +103,11 @@ gave m s p n e c =
       free = ap (λ k. m.free + k) (sym many) ∙ sym (ap (λ o. m.free + symbols_of o) (held_is m s p ∙ r.is));
       few = omega (arith, s.whole);
     }
+
+pub held_stands : (m : Memory) (s : Sound m) (p : ℕ) (t : Term) → held_at m.nodes p ≡ Some t → StandsWith (node_answers m.nodes) p t
+held_stands m s p t e =
+    let is : term_at s.held p ≡ Some t = sym (held_is m s p) ∙ e in
+    let w = out m.nodes s.held p t is s.terms in
+    let few = term_size w.symbol w.under t w.is in
+    let all = w.count in
+    (term_stands m.nodes p w.symbol w.under (Some p) t w.node w.row w.is, omega (arith, s.whole, s.few))

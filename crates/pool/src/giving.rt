@@ -1,5 +1,7 @@
-ghost use Rattle.std.specs.Prelude.{◌≡◌, ◌+◌, ◌==◌, ◌<◌, ℕ, cond, is_some, length, IfSome, IfNone, None};
-ghost use Rattle.traversal.specs.Walks.{most_symbols};
+ghost use Rattle.std.specs.Prelude.{◌≡◌, ◌+◌, ◌==◌, ◌<◌, ℕ, cond, is_some, length, IfSome, IfNone, Some, None};
+ghost use Rattle.traversal.specs.Walks.{most_symbols, StandsWith};
+ghost use Rattle.terms.specs.Term.{Term};
+ghost use Rattle.terms.specs.Nodes.{node_answers};
 ghost use Rattle.pool.specs.Memory.{memory, cleared};
 ghost use Rattle.pool.specs.Sound.{held_at, symbols_of};
 
@@ -29,6 +31,14 @@ impl<'n> Pool<'n> {
         ensures { result ≡ (memory self.now.store).free }
     {
         self.store.free()
+    }
+
+    // Whether a term is held at a place. It stands there in the pool's view then.
+    pub fn holds(&self, place: u16) -> bool
+        ensures answer { result ≡ is_some (held_at (memory self.now.store).nodes place) }
+        ensures stands { (t : Term) → held_at (memory self.now.store).nodes place ≡ Some t → ∥ StandsWith (node_answers (memory self.now.store).nodes) place t ∥₁ }
+    {
+        self.store.is_root(place)
     }
 
     // Frees the nodes of the term that is held at a place; answers whether one is held there, else nothing changes.
