@@ -1,0 +1,10 @@
+pub mod Placing
+pub mod Standing
+pub mod Sounding
+pub mod Helds
+pub mod Givings
+pub mod Turning
+pub mod Tracing
+pub mod Cutting
+pub mod Building
+pub mod Loadings

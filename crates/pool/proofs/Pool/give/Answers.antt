@@ -1,0 +1,30 @@
+use Rattle.std.proofs.Common.{ap, ◌∙◌, arith}
+use Rattle.std.proofs.Math.Logic.{∥∥₁_elim, ∥∥₁_map}
+use Rattle.std.proofs.Math.Nat.{ℕ_set}
+use Rattle.std.proofs.Math.Bridge.{le_prop}
+use Rattle.pool.specs.Memory.{memory}
+use Rattle.pool.specs.Sound.{held_at}
+use Rattle.pool.proofs.Helds.{held_set}
+use Rattle.pool.proofs.Givings.{no_root, gave}
+use Rattle.pool.proofs.Pool.give.Goals as goal
+
+pub returns-in_default-clause-answer : goal.returns-in_default-clause-answer
+returns-in_default-clause-answer c = absurd (no_root (memory c.args.self.now.store) c.args.self.now.sound c.args.place c.if-not-is_root.ensures c.in_default.ensures)
+
+pub returns-in_default-clause-held : goal.returns-in_default-clause-held
+returns-in_default-clause-held c = absurd (no_root (memory c.args.self.now.store) c.args.self.now.sound c.args.place c.if-not-is_root.ensures c.in_default.ensures)
+
+pub returns-in_default-clause-free : goal.returns-in_default-clause-free
+returns-in_default-clause-free c = absurd (no_root (memory c.args.self.now.store) c.args.self.now.sound c.args.place c.if-not-is_root.ensures c.in_default.ensures)
+
+pub give-requires : goal.give-requires
+give-requires c = let l = ∥∥₁_elim c.args.self.now.sound le_prop (λ s. (gave _ s c.args.place c.in-Some.n c.if-not-is_root.ensures c.in-Some.ensures).few) in omega arith
+
+pub invariant_of-self : goal.invariant_of-self
+invariant_of-self c = record { sound = rw c.give.ensures (∥∥₁_map c.args.self.now.sound (λ s. (gave _ s c.args.place c.in-Some.n c.if-not-is_root.ensures c.in-Some.ensures).sound)) }
+
+pub returns-clause-held : goal.returns-clause-held
+returns-clause-held c = λ q. ap (λ m. held_at m.nodes q) c.give.ensures ∙ ∥∥₁_elim c.args.self.now.sound (held_set _ _) (λ s. (gave _ s c.args.place c.in-Some.n c.if-not-is_root.ensures c.in-Some.ensures).held q)
+
+pub returns-clause-free : goal.returns-clause-free
+returns-clause-free c = ap (λ m. m.free) c.give.ensures ∙ ∥∥₁_elim c.args.self.now.sound (ℕ_set _ _) (λ s. (gave _ s c.args.place c.in-Some.n c.if-not-is_root.ensures c.in-Some.ensures).free)

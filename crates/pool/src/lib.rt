@@ -1,0 +1,19 @@
+// Terms in lent nodes: each node is free or belongs to exactly one held term.
+#![tactic(auto)]
+
+ghost use Rattle.pool.specs.Memory.{memory};
+ghost use Rattle.pool.specs.Sound.{Sound};
+
+use store::Store;
+
+pub mod giving;
+pub mod loading;
+mod store;
+pub mod viewing;
+
+// Held terms and free nodes, in lent nodes.
+#[derive(Drop)]
+pub struct Pool<'n> {
+    store: Store<'n>,
+    ghost sound: { ∥ Sound (memory store) ∥₁ },
+}
