@@ -1,17 +1,16 @@
 ghost use Rattle.std.specs.Prelude.{◌≡◌, length, None};
 ghost use Rattle.fixed_vec.specs.FixedVec.{content};
-ghost use Rattle.traversal.specs.Rows.{row_of, padded, PutBefore};
+ghost use Rattle.traversal.specs.Rows.{row_of};
 ghost use Rattle.pool.specs.Memory.{memory};
 ghost use Rattle.pool.specs.Loading.{Traced, Adds, Builds, Fetches, Loaded};
 
 use crate::Pool;
 use crate::store::Store;
-use fixed_vec::{FixedVec, Full};
+use fixed_vec::FixedVec;
 use terms::view::TermView;
+use traversal::MOST;
 use traversal::count::count_symbols;
-
-// The most symbols of a term that is loaded.
-const MOST: usize = 16_384;
+use traversal::row::push_arguments;
 
 // Why a term is not loaded.
 #[derive(Clone, Copy, PartialEq, Eq, Debug)]
@@ -66,38 +65,6 @@ fn arity<V: TermView>(view: &V, place: u16) -> usize
         return 2;
     };
     3
-}
-
-// The places of the arguments of a place, in order, and nothing behind the last.
-fn arguments<V: TermView>(view: &V, place: u16) -> [Option<u16>; 3]
-    ensures row { result ≡ padded (row_of (V.answers view.now) place) }
-    ensures few { (V.answers view.now).argument place 3 ≡ None }
-{
-    let Some(first) = view.argument(place, 0) else {
-        return [None; 3];
-    };
-    let Some(second) = view.argument(place, 1) else {
-        return [Some(first), None, None];
-    };
-    [Some(first), Some(second), view.argument(place, 2)]
-}
-
-// Puts the places of the arguments of a place onto the stack, the first on top.
-fn push_arguments<V: TermView>(
-    view: &V,
-    place: u16,
-    stack: &mut FixedVec<u16, MOST>,
-) -> Result<(), Full>
-    ensures row { PutBefore (row_of (V.answers view.now) place) (content stack.old) (content stack.new) result }
-    ensures few { (V.answers view.now).argument place 3 ≡ None }
-{
-    let [first, second, third] = arguments(view, place);
-    for slot in [third, second, first] {
-        if let Some(argument) = slot {
-            stack.push(argument)?;
-        }
-    }
-    Ok(())
 }
 
 // The places of the n symbols of the term at a place, in reading order.

@@ -1,11 +1,11 @@
-ghost use Rattle.std.specs.Prelude.{◌≡◌, ◌∷◌, None};
+ghost use Rattle.std.specs.Prelude.{◌∷◌};
 ghost use Rattle.fixed_vec.specs.FixedVec.{content};
 ghost use Rattle.traversal.specs.Walks.{Counted};
-ghost use Rattle.traversal.specs.Rows.{row_of, PutBefore, Visited};
+ghost use Rattle.traversal.specs.Rows.{Visited};
 
 use crate::MOST;
-use crate::row::arguments;
-use fixed_vec::{FixedVec, Full};
+use crate::row::push_arguments;
+use fixed_vec::FixedVec;
 use terms::symbol::Symbol;
 use terms::view::TermView;
 
@@ -35,23 +35,4 @@ fn visit<V: TermView>(view: &V, place: u16, stack: &mut FixedVec<u16, MOST>) -> 
         },
         Symbol::Operator(_) => push_arguments(view, place, stack).ok(),
     }
-}
-
-// Puts the places of the arguments of a place onto the stack, the first on top. In writing an item carries more, from one to the next,
-// so that has a loop of its own.
-fn push_arguments<V: TermView>(
-    view: &V,
-    place: u16,
-    stack: &mut FixedVec<u16, MOST>,
-) -> Result<(), Full>
-    ensures row { PutBefore (row_of (V.answers view.now) place) (content stack.old) (content stack.new) result }
-    ensures few { (V.answers view.now).argument place 3 ≡ None }
-{
-    let [first, second, third] = arguments(view, place);
-    for slot in [third, second, first] {
-        if let Some(argument) = slot {
-            stack.push(argument)?;
-        }
-    }
-    Ok(())
 }

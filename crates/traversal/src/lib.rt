@@ -3,9 +3,9 @@
 
 pub mod count;
 mod pending;
-mod row;
+pub mod row;
 pub mod unwritten;
 pub mod write;
 
 // The most symbols of a term that is walked.
-const MOST: usize = 16_384;
+pub const MOST: usize = 16_384;

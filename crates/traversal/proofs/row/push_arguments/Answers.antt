@@ -2,7 +2,7 @@ use Rattle.std.proofs.Common.{arith}
 use Rattle.fixed_vec.specs.FixedVec.{content}
 use Rattle.traversal.specs.Rows.{row_of}
 use Rattle.traversal.proofs.Visits.{refused}
-use Rattle.traversal.proofs.count.push_arguments.Goals as goal
+use Rattle.traversal.proofs.row.push_arguments.Goals as goal
 
 pub returns-in_err-push-clause-row : goal.returns-in_err-push-clause-row
 returns-in_err-push-clause-row g c =

@@ -1,7 +1,7 @@
 use Rattle.std.proofs.Common.{◌≡◌, ◌++◌, drop}
 use Rattle.fixed_vec.specs.FixedVec.{content}
 use Rattle.traversal.specs.Rows.{row_of}
-use Rattle.traversal.proofs.count.push_arguments.Given as goal
+use Rattle.traversal.proofs.row.push_arguments.Given as goal
 use Rattle.traversal.proofs.Slots.{filled}
 
 abbrev pub invariant-loop-slot : goal.invariant-loop-slot
