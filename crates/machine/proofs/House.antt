@@ -1,22 +1,18 @@
--- The house sheet is admitted under the order of its weights, and what follows.
-use Rattle.std.proofs.Common.{◌≡◌, refl, sym, ap, subst, List, [], ◌∷◌, None, codes, ◌++◌, slice_index_or, ℕ, zero, suc, ◌*◌, ◌<◌, ◌≤◌, true, arith}
+-- The house sheet is admitted under the default order of its values, and what follows.
+use Rattle.std.proofs.Common.{◌≡◌, refl, sym, ap, subst, List, [], ◌∷◌, Some, None, codes, ◌++◌, slice_index_or, ℕ, zero, suc, ◌+◌, ◌<◌, ◌≤◌, true, ltb, inl, arith}
 use Rattle.std.specs.List.{AllByRecursion}
 use Rattle.std.specs.Fmt.{digits}
 use Rattle.std.proofs.lemmas.List.{get_or_append_left}
-use Rattle.std.proofs.Math.Nat.{mul-lt-mul_of_pos_left, mul-le-mul_left}
-use Rattle.std.proofs.Math.Option.{some}
+use Rattle.std.proofs.lemmas.Bool.{cond_both, ltb-true}
 use Rattle.std.proofs.Math.Decide.{ℕ_discrete}
-use Rattle.terms.specs.Term.{Term, Terms, variable, instrument, apply, nil, cons}
+use Rattle.terms.specs.Term.{Term, instrument}
 use Rattle.terms.specs.Signature.{Sig, Declared}
-use Rattle.terms.specs.Ticket.{Ticket}
-use Rattle.terms.specs.Position.{Position, part_at, part_in, put_at, put_in}
 use Rattle.terms.specs.Rule.{Rule, RuleOf}
 use Rattle.rewriting.specs.Rules.{rule_at, RulesOf}
-use Rattle.rewriting.specs.Order.{Induction, OrderLaws}
+use Rattle.rewriting.specs.Order.{OrderLaws}
 use Rattle.rewriting.specs.Convergent.{Convergent, Converts}
-use Rattle.rewriting.proofs.Filling.{none_some}
 use Rattle.reading.specs.Reading.{read_ticket, ticket_limit}
-use Rattle.sheet_reading.specs.Values.{Grid}
+use Rattle.sheet_reading.specs.Values.{Grid, cell}
 use Rattle.sheet_reading.specs.Sheet.{SheetShaped}
 use Rattle.sheet_reading.specs.Laws.{Explained}
 use Rattle.sheet_reading.specs.Cases.{house_text, house_values, house_rules, neg, both}
@@ -28,91 +24,58 @@ use Rattle.machine.specs.Calls.{enter, reduce, after}
 use Rattle.machine.specs.Whole.{Holds, Whole}
 use Rattle.machine.specs.Laws.{KeptByAll}
 use Rattle.machine.specs.Admission.{scratch_limit, step_limit, Admission, no_pool, unoriented, tested}
-use Rattle.machine.specs.Weight.{number_in, weight, weight_in, Heavier, NotLighter, Lightens, NeverLoads}
-use Rattle.machine.specs.Cases.{house, falling_values, two_ways, swap, WorkedAdmissions, HouseKeeps}
+use Rattle.orders.specs.Linear.{Linear, linear_in, Heavier, AsHeavy}
+use Rattle.orders.specs.LinearLaws.{linear_laws}
+use Rattle.orders.specs.Lexicographic.{Then}
+use Rattle.orders.specs.PairLaws.{then_laws}
+use Rattle.orders.specs.Default.{DefaultWeak}
+use Rattle.orders.specs.Cases.{first, second, Strict, exchange}
+use Rattle.orders.proofs.Worked.{worked as oriented}
+use Rattle.weighing.specs.Weighing.{times}
+use Rattle.machine.specs.Cases.{house, WorkedAdmissions, HouseKeeps}
 use Rattle.machine.proofs.Admitting.{admitted_converge, admitted_keep}
 
--- ---- weights are an order, where every factor is at least 1
+-- ---- the default order of the house sheet
 
-module _ (values : Grid) (positive : (line f : ℕ) → 1 ≤ number_in values (suc line) f 1) where
-  by_weight : (sig : Sig) → Induction sig (Heavier values)
-  by_weight sig P step t h = below (suc (weight values t)) t h (omega arith)
-    where
-      below : (n : ℕ) (t : Term) → Ticket sig t → weight values t < n → P t
-      below zero t h k = absurd (omega arith)
-      below (suc n) t h k = step t h (λ u j l. below n u j (omega arith))
+-- every factor is at least 1, if those of the three lines are
+positive_in : (grid : Grid) (from : ℕ) → ((k f : ℕ) → k < 3 → 1 ≤ times (cell grid (from + suc k) f)) → (f k : ℕ) → 1 ≤ (linear_in grid from).factor f k
+positive_in grid from h f k =
+    cond_both (ltb (suc k) 4) (cell grid (from + suc k) f) (Some 1) (λ v. 1 ≤ times v) (λ e. h k f (omega (arith, ltb-true (suc k) 4 e))) (λ e. omega arith)
 
-  mutual
-    heavier_within : (t : Term) (p : Position) (a b : Term) → part_at t p ≡ some a → Heavier values a b → Heavier values t (put_at t p b)
-    heavier_within (variable x) [] a b e h = let q : a ≡ variable x = cc in subst (λ z. Heavier values z b) q h
-    heavier_within (variable x) (k ∷ p) a b e h = absurd (none_some e)
-    heavier_within (instrument n) [] a b e h = let q : a ≡ instrument n = cc in subst (λ z. Heavier values z b) q h
-    heavier_within (instrument n) (k ∷ p) a b e h = absurd (none_some e)
-    heavier_within (apply f ts) [] a b e h = let q : a ≡ apply f ts = cc in subst (λ z. Heavier values z b) q h
-    heavier_within (apply f ts) (k ∷ p) a b e h = let r = heavier_within_in f 0 ts k p a b e h in omega arith
+first_positive : (k f : ℕ) → k < 3 → 1 ≤ times (cell house_values (0 + suc k) f)
+first_positive zero zero h = omega arith
+first_positive zero (suc zero) h = omega arith
+first_positive zero (suc (suc zero)) h = omega arith
+first_positive zero (suc (suc (suc f))) h = omega arith
+first_positive (suc zero) zero h = omega arith
+first_positive (suc zero) (suc zero) h = omega arith
+first_positive (suc zero) (suc (suc zero)) h = omega arith
+first_positive (suc zero) (suc (suc (suc f))) h = omega arith
+first_positive (suc (suc zero)) zero h = omega arith
+first_positive (suc (suc zero)) (suc zero) h = omega arith
+first_positive (suc (suc zero)) (suc (suc zero)) h = omega arith
+first_positive (suc (suc zero)) (suc (suc (suc f))) h = omega arith
+first_positive (suc (suc (suc k))) f h = absurd (omega arith)
 
-    heavier_within_in : (f line : ℕ) (ts : Terms) (k : ℕ) (p : Position) (a b : Term) → part_in ts k p ≡ some a → Heavier values a b → weight_in values f (suc line) (put_in ts k p b) < weight_in values f (suc line) ts
-    heavier_within_in f line nil k p a b e h = absurd (none_some e)
-    heavier_within_in f line (cons t ts) zero p a b e h =
-        let r : number_in values (suc line) f 1 * weight values (put_at t p b) < number_in values (suc line) f 1 * weight values t = mul-lt-mul_of_pos_left (heavier_within t p a b e h) (positive line f) in
-        omega arith
-    heavier_within_in f line (cons t ts) (suc k) p a b e h = let r = heavier_within_in f (suc line) ts k p a b e h in omega arith
+-- the second weighing is missing
+second_positive : (k f : ℕ) → k < 3 → 1 ≤ times (cell house_values (4 + suc k) f)
+second_positive zero f h = omega arith
+second_positive (suc zero) f h = omega arith
+second_positive (suc (suc zero)) f h = omega arith
+second_positive (suc (suc (suc k))) f h = absurd (omega arith)
 
-  mutual
-    no_lighter_within : (t : Term) (p : Position) (a b : Term) → part_at t p ≡ some a → NotLighter values a b → NotLighter values t (put_at t p b)
-    no_lighter_within (variable x) [] a b e h = let q : a ≡ variable x = cc in subst (λ z. NotLighter values z b) q h
-    no_lighter_within (variable x) (k ∷ p) a b e h = absurd (none_some e)
-    no_lighter_within (instrument n) [] a b e h = let q : a ≡ instrument n = cc in subst (λ z. NotLighter values z b) q h
-    no_lighter_within (instrument n) (k ∷ p) a b e h = absurd (none_some e)
-    no_lighter_within (apply f ts) [] a b e h = let q : a ≡ apply f ts = cc in subst (λ z. NotLighter values z b) q h
-    no_lighter_within (apply f ts) (k ∷ p) a b e h = let r = no_lighter_within_in f 0 ts k p a b e h in omega arith
+abbrev m : Linear
+m = first house_values
 
-    no_lighter_within_in : (f line : ℕ) (ts : Terms) (k : ℕ) (p : Position) (a b : Term) → part_in ts k p ≡ some a → NotLighter values a b → weight_in values f (suc line) (put_in ts k p b) ≤ weight_in values f (suc line) ts
-    no_lighter_within_in f line nil k p a b e h = absurd (none_some e)
-    no_lighter_within_in f line (cons t ts) zero p a b e h =
-        let r : number_in values (suc line) f 1 * weight values (put_at t p b) ≤ number_in values (suc line) f 1 * weight values t = mul-le-mul_left (number_in values (suc line) f 1) (no_lighter_within t p a b e h) in
-        omega arith
-    no_lighter_within_in f line (cons t ts) (suc k) p a b e h = let r = no_lighter_within_in f (suc line) ts k p a b e h in omega arith
+abbrev n : Linear
+n = second house_values
 
-  weights_order : (sig : Sig) → Declared sig → OrderLaws sig (Heavier values) (NotLighter values) (Lightens values) (NeverLoads values)
-  weights_order sig d = record {
-    induction = by_weight sig;
-    greater_within = λ t p a b ht hb e h. heavier_within t p a b e h;
-    at_least_within = λ t p a b ht hb e h. no_lighter_within t p a b e h;
-    weaken = λ t u ht hu h. omega arith;
-    greater_at_least = λ s t u hs ht hu h k. omega arith;
-    at_least_greater = λ s t u hs ht hu h k. omega arith;
-    at_least_at_least = λ s t u hs ht hu h k. omega arith;
-    strictly = λ r rule h σ tickets. h σ;
-    weakly = λ r rule h σ tickets. h σ;
-  }
+house_order : (sig : Sig) → Declared sig → OrderLaws sig (Then (Heavier m) (AsHeavy m) (Heavier n)) (Then (Heavier m) (AsHeavy m) (AsHeavy n)) (Strict house_values) (DefaultWeak m n)
+house_order sig d = then_laws (linear_laws m (positive_in house_values 0 first_positive) sig) (linear_laws n (positive_in house_values 4 second_positive) sig)
 
--- ---- the house sheet
-
-positive : (line f : ℕ) → 1 ≤ number_in house_values (suc line) f 1
-positive zero zero = omega arith
-positive zero (suc zero) = omega arith
-positive zero (suc (suc zero)) = omega arith
-positive zero (suc (suc (suc f))) = omega arith
-positive (suc zero) zero = omega arith
-positive (suc zero) (suc zero) = omega arith
-positive (suc zero) (suc (suc zero)) = omega arith
-positive (suc zero) (suc (suc (suc f))) = omega arith
-positive (suc (suc zero)) zero = omega arith
-positive (suc (suc zero)) (suc zero) = omega arith
-positive (suc (suc zero)) (suc (suc zero)) = omega arith
-positive (suc (suc zero)) (suc (suc (suc f))) = omega arith
-positive (suc (suc (suc line))) f = omega arith
-
--- each rule of the house sheet lightens
-house_lightens : (k : ℕ) → k < 6 → Lightens house_values (rule_at house_rules k)
-house_lightens zero h σ = omega arith
-house_lightens (suc zero) h σ = omega arith
-house_lightens (suc (suc zero)) h σ = omega arith
-house_lightens (suc (suc (suc zero))) h σ = omega arith
-house_lightens (suc (suc (suc (suc zero)))) h σ = omega arith
-house_lightens (suc (suc (suc (suc (suc zero))))) h σ = omega arith
-house_lightens (suc (suc (suc (suc (suc (suc k)))))) h σ = absurd (omega arith)
+-- each rule of the house sheet falls
+house_falls : (k : ℕ) → k < 6 → Strict house_values (rule_at house_rules k)
+house_falls k h = inl (oriented.house_rules_fall k h)
 
 -- it was read
 shaped : SheetShaped house_sheet
@@ -126,41 +89,34 @@ rules_of sig (r ∷ rules) h (suc k) l = rules_of sig rules h.1 k (omega arith)
 house_rules_over : RulesOf house.operators house.rules
 house_rules_over = rules_of house.operators house.rules shaped.lawful
 
-house_admitted : Admission (Lightens house_values) 4096 house_rules None
+house_admitted : Admission (Strict house_values) 4096 house_rules None
 unfolding scratch_limit step_limit ℕ_discrete
-house_admitted = tested (omega arith) house_lightens refl
-
--- a swap does not lighten
-swap_stays : Lightens house_values swap → ⊥
-swap_stays h = let k = h (λ x. instrument 1) in omega arith
-
-two_ways_lighten : (k : ℕ) → k < 2 → Lightens falling_values (rule_at two_ways k)
-two_ways_lighten zero h σ = omega arith
-two_ways_lighten (suc zero) h σ = omega arith
-two_ways_lighten (suc (suc k)) h σ = absurd (omega arith)
+house_admitted = tested (omega arith) house_falls refl
 
 pub worked_admissions : WorkedAdmissions
 unfolding scratch_limit step_limit ℕ_discrete
 worked_admissions = record {
   the_house_sheet = house_admitted;
-  different = tested (omega arith) two_ways_lighten refl;
-  added_swap = unoriented (omega arith) 6 (record { known = omega arith; outside = swap_stays; earlier = earlier }) refl;
-  sixteen_nodes = tested (omega arith) house_lightens refl;
-  fifteen_nodes = tested (omega arith) house_lightens refl;
-  no_nodes = tested (omega arith) house_lightens refl;
+  different = tested (omega arith) oriented.names_fall refl;
+  added_exchange = unoriented (omega arith) 6 (record { known = omega arith; outside = oriented.nor_by_the_pair; earlier = earlier }) refl;
+  two_weighings = tested (omega arith) oriented.both_shift refl;
+  first_alone = unoriented (omega arith) 0 (record { known = omega arith; outside = oriented.first_does_not_fall; earlier = λ k h. absurd (omega arith) }) refl;
+  sixteen_nodes = tested (omega arith) house_falls refl;
+  fifteen_nodes = tested (omega arith) house_falls refl;
+  no_nodes = tested (omega arith) house_falls refl;
   too_long = no_pool (omega arith) refl;
 }
   where
-    earlier : (k : ℕ) → k < 6 → Lightens house_values (rule_at (house_rules ++ swap ∷ []) k)
-    earlier k h = subst (Lightens house_values) (sym (get_or_append_left house_rules (swap ∷ []) _ k h)) (house_lightens k h)
+    earlier : (k : ℕ) → k < 6 → Strict house_values (rule_at (house_rules ++ exchange ∷ []) k)
+    earlier k h = subst (Strict house_values) (sym (get_or_append_left house_rules (exchange ∷ []) _ k h)) (house_falls k h)
 
 -- ---- so the whole holds
 
 house_converge : Convergent house.operators house.rules
-house_converge = admitted_converge (Heavier house_values) (NotLighter house_values) (Lightens house_values) (NeverLoads house_values) (weights_order house_values positive) house.operators shaped.declared house.rules house_rules_over 4096 house_admitted
+house_converge = admitted_converge (Then (Heavier m) (AsHeavy m) (Heavier n)) (Then (Heavier m) (AsHeavy m) (AsHeavy n)) (Strict house_values) (DefaultWeak m n) house_order house.operators shaped.declared house.rules house_rules_over 4096 house_admitted
 
 house_keep : KeptByAll house
-house_keep = admitted_keep (Heavier house_values) (NotLighter house_values) (Lightens house_values) (NeverLoads house_values) (weights_order house_values positive) house shaped.declared house_rules_over 4096 house_admitted
+house_keep = admitted_keep (Then (Heavier m) (AsHeavy m) (Heavier n)) (Then (Heavier m) (AsHeavy m) (AsHeavy n)) (Strict house_values) (DefaultWeak m n) house_order house shaped.declared house_rules_over 4096 house_admitted
 
 -- two tickets, entered and reduced
 abbrev both_reduced : List ℕ → List ℕ → Machine

@@ -1,6 +1,6 @@
 -- Worked cases: what the machine answers on the house sheet, and which sheets are admitted.
 use Rattle.std.specs.Prelude.{◌≡◌, ℕ, List, [], ◌∷◌, ◌++◌, replicate, Some, None, Option, codes}
-use Rattle.terms.specs.Term.{Term, instrument, apply, nil}
+use Rattle.terms.specs.Term.{instrument}
 use Rattle.terms.specs.Rule.{Rule}
 use Rattle.rewriting.specs.Convergent.{Convergent, Converts}
 use Rattle.reading.specs.declared.refusal.Refusal.{Refusal}
@@ -8,14 +8,14 @@ use Rattle.reading.specs.declared.fault.TextFault.TheVariants.{Unexpected}
 use Rattle.reading.specs.Refusals.{text_refusal}
 use Rattle.reading.specs.Cases.{sample, at}
 use Rattle.sheet_reading.specs.Values.{Grid}
-use Rattle.sheet_reading.specs.Cases.{house_values, house_rules, neg, both, A, B}
+use Rattle.sheet_reading.specs.Cases.{house_values, house_rules, neg, both}
 use Rattle.machine.specs.Refusals.{not_oriented, different_ends, side_short, wrong_length, no_room, is_held, too_short, no_entry}
 use Rattle.machine.specs.Machine.{System, opened}
 use Rattle.machine.specs.Reducing.{finished, spent, short}
 use Rattle.machine.specs.Calls.{Call, enter, reduce, show, strike, free, Answer, entered, reduced, shown, struck, counted, refused, answers_to, buffers_of}
 use Rattle.machine.specs.Admission.{Admission}
 use Rattle.machine.specs.Laws.{KeptByAll}
-use Rattle.machine.specs.Weight.{Lightens}
+use Rattle.orders.specs.Cases.{Strict, exchange, unary, shifting_rules, names, falling_rules}
 
 -- nil, neg and both, and their six rules
 abbrev pub house : System
@@ -68,38 +68,27 @@ pub record Worked : Type 0 where
   -- a strike frees the nodes
   pub struck_free : answered 8 2 (enter 0 worked ∷ free ∷ strike 0 ∷ free ∷ strike 0 ∷ reduce 0 1 ∷ enter 0 (codes "nil") ∷ free ∷ []) (entered ∷ counted 3 ∷ struck ∷ counted 8 ∷ refused (no_entry 0) ∷ refused (no_entry 0) ∷ entered ∷ counted 7 ∷ [])
 
--- ---- admission, by weights
+-- ---- admission, under the default order
 
--- a name without arguments
-abbrev pub alone : ℕ → Term
-alone n = apply n nil
-
--- names a, b and c of bases 3, 2 and 1
-abbrev pub falling_values : Grid
-falling_values = (Some 3 ∷ Some 2 ∷ Some 1 ∷ []) ∷ (None ∷ None ∷ None ∷ []) ∷ (None ∷ None ∷ None ∷ []) ∷ (None ∷ None ∷ None ∷ []) ∷ []
-
--- a=b and a=c
-abbrev pub two_ways : List Rule
-two_ways = record { left = alone 0; right = alone 1 } ∷ record { left = alone 0; right = alone 2 } ∷ []
-
--- both(A,B)=both(B,A)
-abbrev pub swap : Rule
-swap = record { left = both A B; right = both B A }
-
--- what admission answers under the order of these weights
+-- what admission answers under the order that these lines of values give
 abbrev pub admits : Grid → ℕ → List Rule → Option Refusal → Type 0
-admits values nodes rules answer = Admission (Lightens values) nodes rules answer
+admits values nodes rules answer = Admission (Strict values) nodes rules answer
 
 pub record WorkedAdmissions : Type 0 where
   pub the_house_sheet : admits house_values 4096 house_rules None
-  pub different : admits falling_values 4096 two_ways (Some (different_ends 0 1))
-  pub added_swap : admits house_values 4096 (house_rules ++ swap ∷ []) (Some (not_oriented 6))
+  -- names of bases 3, 2 and 1, with a=b and a=c
+  pub different : admits names 4096 falling_rules (Some (different_ends 0 1))
+  -- both(A,B)=both(B,A) added
+  pub added_exchange : admits house_values 4096 (house_rules ++ exchange ∷ []) (Some (not_oriented 6))
+  -- p(A)=q(A) and q(q(A))=p(A), with bases 1 and 1, then 2 and 1; and without the second weighing
+  pub two_weighings : admits (unary 1 1 ++ unary 2 1) 4096 shifting_rules None
+  pub first_alone : admits (unary 1 1) 4096 shifting_rules (Some (not_oriented 0))
   -- of the overlap of rules 2 and 5 both sides end with 8 symbols: in 16 nodes the second fits beside the first, in 15 it is short
   pub sixteen_nodes : admits house_values 16 house_rules None
   pub fifteen_nodes : admits house_values 15 house_rules (Some (side_short 2 5))
   -- no overlap can be tested in a pool without nodes; a pool too long is refused before all else
   pub no_nodes : admits house_values 0 house_rules (Some (side_short 0 0))
-  pub too_long : admits house_values 16385 (house_rules ++ swap ∷ []) (Some (wrong_length 16385))
+  pub too_long : admits house_values 16385 (house_rules ++ exchange ∷ []) (Some (wrong_length 16385))
 
 -- what is so of the house sheet: its rules are convergent, and what holds after every list of calls
 pub record HouseKeeps : Type 0 where

@@ -9,5 +9,4 @@ pub mod History
 pub mod Whole
 pub mod Following
 pub mod Laws
-pub mod Weight
 pub mod Cases

@@ -10,7 +10,7 @@ use symbol_order::BySymbols;
 use weighing::Weighing;
 
 // The text of a sheet: the lines before its rules, and the rules, each with its end.
-pub fn text(heap: Global, front: &str, rules: &str) -> Result<Vec<u8>, Fail> {
+pub(crate) fn text(heap: Global, front: &str, rules: &str) -> Result<Vec<u8>, Fail> {
     let mut whole = String::new(heap);
     whole.push_str(front)?;
     repeat(rules, &mut whole)?;
@@ -46,7 +46,7 @@ fn repeat(column: &str, whole: &mut String) -> Result<(), Fail> {
 }
 
 // What is found of rule 0 of a sheet.
-pub fn answer(
+pub(crate) fn answer(
     heap: Global,
     sheet: &Sheet,
     first: &Weighing,

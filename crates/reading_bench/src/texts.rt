@@ -50,7 +50,7 @@ fn put_term(
 }
 
 // A sheet with two weighings and 32 rules of 32 symbols a side.
-pub fn sheet(heap: Global, front: &[u8]) -> Result<Vec<u8>, AllocError> {
+pub(crate) fn sheet(heap: Global, front: &[u8]) -> Result<Vec<u8>, AllocError> {
     let mut text = Vec::new(heap);
     for operator in 0..32 {
         if operator > 0 {
@@ -77,7 +77,7 @@ pub fn sheet(heap: Global, front: &[u8]) -> Result<Vec<u8>, AllocError> {
 }
 
 // A ticket.
-pub fn ticket(heap: Global, front: &[u8], levels: usize) -> Result<Vec<u8>, AllocError> {
+pub(crate) fn ticket(heap: Global, front: &[u8], levels: usize) -> Result<Vec<u8>, AllocError> {
     let mut text = Vec::new(heap);
     put_term(&mut text, front, levels, b"#1")?;
     Ok(text)

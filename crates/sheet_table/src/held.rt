@@ -12,7 +12,7 @@ use weighing::Weighing;
 
 // The three values that a sheet is read into.
 #[derive(Drop)]
-pub struct Held {
+pub(crate) struct Held {
     pub sheet: Sheet,
     pub first: Weighing,
     pub second: Weighing,
@@ -20,7 +20,7 @@ pub struct Held {
 
 impl Held {
     // With all that a sheet can have.
-    pub fn full(heap: Global) -> Result<Held, Fail> {
+    pub(crate) fn full(heap: Global) -> Result<Held, Fail> {
         let mut held = Held {
             sheet: Sheet::new(),
             first: Weighing::missing(),
@@ -37,7 +37,7 @@ impl Held {
     }
 
     // Reads a text, and answers what was read or the refusal.
-    pub fn read(&mut self, heap: Global, text: &[u8]) -> Result<String, Fail> {
+    pub(crate) fn read(&mut self, heap: Global, text: &[u8]) -> Result<String, Fail> {
         match sheet_reader::read(text, &mut self.sheet, &mut self.first, &mut self.second) {
             Ok(()) => self.show(heap),
             Err(fault) => Ok(Refusal::from(fault).to_string(heap)?),
@@ -67,7 +67,7 @@ impl Held {
     }
 
     // Whether nothing is held behind the operators and rules of the sheet, and the sheet is not admitted.
-    pub fn rest_is_bare(&self) -> bool {
+    pub(crate) fn rest_is_bare(&self) -> bool {
         !self.sheet.is_admitted()
             && self.sheet.rule(self.sheet.len()).is_none()
             && (0..=u8::MAX).skip(self.sheet.signature().len()).all(|operator| is_neutral(
@@ -77,7 +77,7 @@ impl Held {
     }
 
     // Whether there are neither operators nor rules.
-    pub fn is_empty(&self) -> bool {
+    pub(crate) fn is_empty(&self) -> bool {
         self.sheet.signature().len() == 0 && self.sheet.len() == 0
     }
 }

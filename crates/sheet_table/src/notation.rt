@@ -4,7 +4,7 @@ use std::alloc::{AllocError, Global};
 use std::test::Fail;
 
 // The text that a case gives.
-pub fn text(heap: Global, column: &str) -> Result<Vec<u8>, Fail> {
+pub(crate) fn text(heap: Global, column: &str) -> Result<Vec<u8>, Fail> {
     let mut whole = String::new(heap);
     let rest = if let Some(rest) = column.strip_prefix('&') {
         whole.push_str(HOUSE)?;
@@ -31,7 +31,7 @@ fn lines(heap: Global, text: &str) -> Result<Vec<u8>, AllocError> {
 }
 
 // What a case expects.
-pub fn answer(heap: Global, column: &str) -> Result<String, Fail> {
+pub(crate) fn answer(heap: Global, column: &str) -> Result<String, Fail> {
     let mut whole = String::new(heap);
     let rest = if let Some(rest) = column.strip_prefix('@') {
         whole.push_str(HOUSE_OPERATORS)?;
