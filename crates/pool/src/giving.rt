@@ -2,11 +2,11 @@ ghost use Rattle.std.specs.Prelude.{◌≡◌, ◌+◌, ◌==◌, ◌<◌, ℕ, 
 ghost use Rattle.traversal.specs.Walks.{most_symbols, StandsWith};
 ghost use Rattle.terms.specs.Term.{Term};
 ghost use Rattle.terms.specs.Nodes.{node_answers};
-ghost use Rattle.pool.specs.Memory.{memory, cleared};
-ghost use Rattle.pool.specs.Sound.{held_at, symbols_of};
+ghost use Rattle.node_store.specs.Memory.{memory, cleared};
+ghost use Rattle.node_store.specs.Sound.{held_at, symbols_of};
 
 use crate::Pool;
-use crate::store::Store;
+use node_store::store::Store;
 use terms::node::Node;
 use traversal::count::count_symbols;
 

@@ -1,14 +1,13 @@
 // Terms in lent nodes: each node is free or belongs to exactly one held term.
 #![tactic(auto)]
 
-ghost use Rattle.pool.specs.Memory.{memory};
-ghost use Rattle.pool.specs.Sound.{Sound};
+ghost use Rattle.node_store.specs.Memory.{memory};
+ghost use Rattle.node_store.specs.Sound.{Sound};
 
-use store::Store;
+use node_store::store::Store;
 
 pub mod giving;
 pub mod loading;
-mod store;
 pub mod viewing;
 
 // Held terms and free nodes, in lent nodes.

@@ -1,5 +1,5 @@
 ghost use Rattle.terms.specs.Nodes.{node_answers};
-ghost use Rattle.pool.specs.Memory.{memory};
+ghost use Rattle.node_store.specs.Memory.{memory};
 
 use crate::Pool;
 use terms::symbol::Symbol;

@@ -1,6 +1,6 @@
 use Rattle.std.proofs.Math.Logic.{∥∥₁_elim}
 use Rattle.std.proofs.Math.Bridge.{le_prop}
-use Rattle.pool.proofs.Sounding.{as_cleared}
+use Rattle.node_store.proofs.Sounding.{as_cleared}
 use Rattle.pool.proofs.Pool.clear.Goals as goal
 
 pub invariant_of-self : goal.invariant_of-self

@@ -2,10 +2,10 @@ use Rattle.std.proofs.Common.{ap, ◌∙◌, arith}
 use Rattle.std.proofs.Math.Logic.{∥∥₁_elim, ∥∥₁_map}
 use Rattle.std.proofs.Math.Nat.{ℕ_set}
 use Rattle.std.proofs.Math.Bridge.{le_prop}
-use Rattle.pool.specs.Memory.{memory}
-use Rattle.pool.specs.Sound.{held_at}
-use Rattle.pool.proofs.Helds.{held_set}
-use Rattle.pool.proofs.Givings.{no_root, gave}
+use Rattle.node_store.specs.Memory.{memory}
+use Rattle.node_store.specs.Sound.{held_at}
+use Rattle.node_store.proofs.Helds.{held_set}
+use Rattle.node_store.proofs.Givings.{no_root, gave}
 use Rattle.pool.proofs.Pool.give.Goals as goal
 
 pub returns-in_default-clause-answer : goal.returns-in_default-clause-answer

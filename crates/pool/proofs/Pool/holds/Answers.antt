@@ -1,5 +1,5 @@
 use Rattle.std.proofs.Math.Logic.{∥∥₁_map}
-use Rattle.pool.proofs.Givings.{held_stands}
+use Rattle.node_store.proofs.Givings.{held_stands}
 use Rattle.pool.proofs.Pool.holds.Goals as goal
 
 pub returns-clause-stands : goal.returns-clause-stands

@@ -1,9 +1,9 @@
 use Rattle.std.proofs.Common.{◌≤◌, arith}
 use Rattle.std.proofs.Math.Logic.{∥∥₁_elim, ∥∥₁_map}
 use Rattle.std.proofs.Math.Nat.{ℕ_set}
-use Rattle.pool.specs.Memory.{memory}
-use Rattle.pool.proofs.Helds.{held_set}
-use Rattle.pool.proofs.Loadings.{fetched_sound}
+use Rattle.node_store.specs.Memory.{memory}
+use Rattle.node_store.proofs.Helds.{held_set}
+use Rattle.node_store.proofs.Loadings.{fetched_sound}
 use Rattle.pool.proofs.Pool.load.Goals as goal
 
 pub invariant_of-self : goal.invariant_of-self

@@ -1,5 +1,5 @@
 use Rattle.std.proofs.Common.{arith}
-use Rattle.pool.proofs.Sounding.{as_cleared, most, more}
+use Rattle.node_store.proofs.Sounding.{as_cleared, most, more}
 use Rattle.pool.proofs.Pool.new.Goals as goal
 
 pub returns-then-nodes-gt-MOST-clause-none : goal.returns-then-nodes-gt-MOST-clause-none

@@ -1,0 +1,6 @@
+pub mod Memory
+pub mod Placed
+pub mod Sound
+pub mod Work
+pub mod Loading
+pub mod Tracing
