@@ -13,9 +13,10 @@ use Rattle.node_store.specs.Placed.{Placed, none, at, link, Holds, hit, occ, IsT
 use Rattle.node_store.specs.Sound.{unused}
 use Rattle.node_store.specs.Work.{Work, Joined}
 use Rattle.node_store.specs.Loading.{arguments_of, before, Built, ended}
-use Rattle.node_store.proofs.Placing.{hit_self, keep_set, keep_all_set}
+use Rattle.node_store.proofs.Placing.{hit_self, keep_set, keep_all_set, keep_rows_set}
 use Rattle.node_store.proofs.Helds.{unused_some}
 use Rattle.node_store.proofs.Tracing.{row_stands}
+use Rattle.node_store.proofs.Rows.{with_none}
 
 -- the node at a place without its next sibling
 abbrev bare : List Node → ℕ → Node
@@ -108,23 +109,20 @@ is_term v p s a (instrument n) e h few w = (sym e ∙ h.0, no_terms a w)
     no_terms (at i s x y) z = absurd z
 is_term v p s a (apply f ts) e h few w = (sym e ∙ h.0, few, w)
 
-built : (m m′ : Memory) (h : Held) (s : Symbol) (a b : Placed) (t : Term) (us : Terms) (k : Memory) (r : Option ℕ) → m′.free ≡ m.free → length m′.nodes ≡ length m.nodes → 1 ≤ m.free → IsTerm (Some s) a t → AreTerms b us → Joined m′ h (Some s) a b k r → Built m h (cons t us) 1 k r
-built m m′ h s a b t us k None e l some x y j = absurd (let z : ⊥ = omega arith in z)
-built m m′ h s a b t us k (Some i) e l some x y (g, w, f, n) = record { new = at i (Some s) a b; gone = g; work = w; begins = refl; terms = (x, y); free = omega arith; long = n ∙ l }
+built : (m m′ : Memory) (h : Held) (s : Symbol) (a b : Placed) (qs : List Placed) (t : Term) (us : Terms) (k : Memory) (r : Option ℕ) → m′.free ≡ m.free → length m′.nodes ≡ length m.nodes → 1 ≤ m.free → IsTerm (Some s) a t → AreTerms b us → Joined m′ h (Some s) a b qs k r → Built m h qs (cons t us) 1 k r
+built m m′ h s a b qs t us k None e l some x y j = absurd (let z : ⊥ = omega arith in z)
+built m m′ h s a b qs t us k (Some i) e l some x y (g, w, f, n) = record { new = at i (Some s) a b; gone = g; work = w; begins = refl; terms = (x, y); free = omega arith; long = n ∙ l }
 
-module _ (v : Answers) (m : Memory) (h : Held) (q g : Placed) (p : ℕ) (s : Symbol) (t : Term) (us : Terms) (w : Work m h q none g) (a : AreTerms q (before (arguments_of t) us)) (few : v.argument p 3 ≡ None) (is : v.symbol p ≡ Some s) (stands : Stands v p t) (some : 1 ≤ m.free) (n : ℕ) (en : n ≡ length (row_of v p)) where
+module _ (v : Answers) (m : Memory) (h : Held) (q : Placed) (qs : List Placed) (g : Placed) (p : ℕ) (s : Symbol) (t : Term) (us : Terms) (w : Work m h (q ∷ qs) g) (a : AreTerms q (before (arguments_of t) us)) (few : v.argument p 3 ≡ None) (is : v.symbol p ≡ Some s) (stands : Stands v p t) (some : 1 ≤ m.free) (n : ℕ) (en : n ≡ length (row_of v p)) where
   three : how_many (arguments_of t) ≤ 3
   three = omega (arith, arity_is v p t n en few stands, row_short v p 3 0)
 
   -- no arguments
-  swapped : Work m h none q g
-  swapped = record { terms = w.terms; first = tt; second = w.first; begins = w.begins; row = w.row; once = λ j. let o = w.once j in omega arith; blank = w.blank; within = w.within; count = w.count }
-
-  pub added_bare : (k : Memory) (r : Option ℕ) → n ≡ 0 → ((a b g : Placed) → Work m h a b g → link a ≡ None → link b ≡ link q → Joined m h (Some s) a b k r) → Built m h (cons t us) 1 k r
+  pub added_bare : (k : Memory) (r : Option ℕ) → n ≡ 0 → ((a b g : Placed) → Work m h (a ∷ b ∷ qs) g → link a ≡ None → link b ≡ link q → Joined m h (Some s) a b qs k r) → Built m h qs (cons t us) 1 k r
   added_bare k r z j = go (arguments_of t) refl (arity_is v p t n en few stands ∙ z)
     where
-      go : (ts : Terms) → ts ≡ arguments_of t → how_many (arguments_of t) ≡ 0 → Built m h (cons t us) 1 k r
-      go nil e y = built m m h s none q t us k r refl refl some (is_term v p s none t is stands three (subst (AreTerms none) e tt)) (subst (λ ts. AreTerms q (before ts us)) (sym e) a) (j none q g swapped refl refl)
+      go : (ts : Terms) → ts ≡ arguments_of t → how_many (arguments_of t) ≡ 0 → Built m h qs (cons t us) 1 k r
+      go nil e y = built m m h s none q qs t us k r refl refl some (is_term v p s none t is stands three (subst (AreTerms none) e tt)) (subst (λ ts. AreTerms q (before ts us)) (sym e) a) (j none q g (with_none m h (q ∷ qs) g w) refl refl)
       go (cons x ts) e y = let u = ap how_many e in absurd (let b : ⊥ = omega arith in b)
 
   -- some arguments
@@ -135,7 +133,7 @@ module _ (v : Answers) (m : Memory) (h : Held) (q g : Placed) (p : ℕ) (s : Sym
     pub at_last : along m.nodes (link q) (n - 1) ≡ Some last
     pub begins : link front ≡ link q
     pub next : link back ≡ (get_or m.nodes last vacant).next
-    pub work : Work (ended m last) h front back g
+    pub work : Work (ended m last) h (front ∷ back ∷ qs) g
     pub is_front : AreTerms front (arguments_of t)
     pub is_back : AreTerms back us
 
@@ -145,7 +143,7 @@ module _ (v : Answers) (m : Memory) (h : Held) (q g : Placed) (p : ℕ) (s : Sym
       go : (ts : Terms) → ts ≡ arguments_of t → Split
       go nil e = let u = ap how_many e in let x = arity_is v p t n en few stands in absurd (z (omega arith))
       go (cons x ts) e =
-          let c = cut m.nodes q x ts us w.first (λ j. let o = w.once j in omega arith) (subst (λ ts. AreTerms q (before ts us)) (sym e) a) in
+          let c = cut m.nodes q x ts us w.rows.0 (λ j. let o = w.once j in omega arith) (subst (λ ts. AreTerms q (before ts us)) (sym e) a) in
           let u = ap how_many e in
           let y = arity_is v p t n en few stands in
           let i : n - 1 ≡ how_many ts = omega arith in
@@ -163,8 +161,7 @@ module _ (v : Answers) (m : Memory) (h : Held) (q g : Placed) (p : ℕ) (s : Sym
             next = c.next;
             work = record {
               terms = keep_all_set m.nodes c.last b h (omega arith) w.terms;
-              first = c.hold_front;
-              second = c.hold_back;
+              rows = (c.hold_front, (c.hold_back, keep_rows_set m.nodes c.last b qs (omega arith) w.rows.1));
               begins = w.begins;
               row = keep_set m.nodes c.last b g (omega arith) w.row;
               once = λ j. let o = w.once j in let d = c.places j in omega arith;
@@ -176,13 +173,13 @@ module _ (v : Answers) (m : Memory) (h : Held) (q g : Placed) (p : ℕ) (s : Sym
             is_back = c.terms_back;
           }
 
-  pub added_over : (last : ℕ) (m′ k : Memory) (r next : Option ℕ) → n ≢ 0 → along m.nodes (link q) (n - 1) ≡ Some last → m′ ≡ ended m last → next ≡ (get_or m.nodes last vacant).next → ((a b g : Placed) → Work m′ h a b g → link a ≡ link q → link b ≡ next → Joined m′ h (Some s) a b k r) → Built m h (cons t us) 1 k r
+  pub added_over : (last : ℕ) (m′ k : Memory) (r next : Option ℕ) → n ≢ 0 → along m.nodes (link q) (n - 1) ≡ Some last → m′ ≡ ended m last → next ≡ (get_or m.nodes last vacant).next → ((a b g : Placed) → Work m′ h (a ∷ b ∷ qs) g → link a ≡ link q → link b ≡ next → Joined m′ h (Some s) a b qs k r) → Built m h qs (cons t us) 1 k r
   added_over last m′ k r next z al em en′ j =
       let c = split z in
       let same : c.last ≡ last = (let e : Some c.last ≡ Some last = sym c.at_last ∙ al in cc) in
       let em′ : m′ ≡ ended m c.last = em ∙ ap (ended m) (sym same) in
-      built m m′ h s c.front c.back t us k r (ap (λ x. x.free) em) (ap (λ x. length x.nodes) em ∙ length-set m.nodes last (bare m.nodes last)) some (is_term v p s c.front t is stands three c.is_front) c.is_back
-      (j c.front c.back g (subst (λ x. Work x h c.front c.back g) (sym em′) c.work) c.begins (c.next ∙ ap (λ i. (get_or m.nodes i vacant).next) same ∙ sym en′))
+      built m m′ h s c.front c.back qs t us k r (ap (λ x. x.free) em) (ap (λ x. length x.nodes) em ∙ length-set m.nodes last (bare m.nodes last)) some (is_term v p s c.front t is stands three c.is_front) c.is_back
+      (j c.front c.back g (subst (λ x. Work x h (c.front ∷ c.back ∷ qs) g) (sym em′) c.work) c.begins (c.next ∙ ap (λ i. (get_or m.nodes i vacant).next) same ∙ sym en′))
 
   pub no_last : n ≢ 0 → along m.nodes (link q) (n - 1) ≡ None → ⊥
   no_last z e = let c = split z in let f : Some c.last ≡ None = sym c.at_last ∙ e in let x : ◌≡◌ {A = ℕ} 0 1 = cc in omega arith

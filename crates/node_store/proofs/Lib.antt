@@ -3,6 +3,7 @@ pub mod Standing
 pub mod Sounding
 pub mod Helds
 pub mod Givings
+pub mod Rows
 pub mod Turning
 pub mod Tracing
 pub mod Cutting

@@ -1,5 +1,5 @@
 -- Holding a term whose nodes are made.
-use Rattle.std.proofs.Common.{◌≡◌, ℕ, ◌+◌, ◌≤◌, ◌==◌, cond, length, get_or, Some, None, Option, sym, refl, ap, ◌∙◌, subst, arith}
+use Rattle.std.proofs.Common.{◌≡◌, ℕ, ◌+◌, ◌≤◌, ◌==◌, cond, List, [], ◌∷◌, length, get_or, Some, None, Option, sym, refl, ap, ◌∙◌, subst, arith}
 use Rattle.std.proofs.lemmas.List.{get_or-set_same, get_or-set_other, length-set}
 use Rattle.terms.specs.declared.node.Node.{Node}
 use Rattle.terms.specs.declared.symbol.Symbol.{Symbol}
@@ -17,10 +17,10 @@ use Rattle.node_store.proofs.Helds.{unused_some, held_is}
 use Rattle.node_store.proofs.Givings.{term_occ}
 use Rattle.node_store.proofs.Tracing.{small}
 
-pub at_work : (m : Memory) (s : Sound m) → Work m s.held none none s.gone
-at_work m s = record { terms = s.terms; first = tt; second = tt; begins = s.begins; row = s.row; once = λ j. let o = s.once j in omega arith; blank = s.blank; within = s.within; count = s.count }
+pub at_work : (m : Memory) (s : Sound m) → Work m s.held [] s.gone
+at_work m s = record { terms = s.terms; rows = tt; begins = s.begins; row = s.row; once = λ j. let o = s.once j in omega arith; blank = s.blank; within = s.within; count = s.count }
 
-module _ (m : Memory) (s : Sound m) (t : Term) (k : Memory) (i : ℕ) (x : Option Symbol) (ks g : Placed) (w : Work k s.held (at i x ks none) none g) (is : IsTerm x ks t) (free : k.free + symbols t ≡ m.free) (long : length k.nodes ≡ length m.nodes) where
+module _ (m : Memory) (s : Sound m) (t : Term) (k : Memory) (i : ℕ) (x : Option Symbol) (ks g : Placed) (w : Work k s.held (at i x ks none ∷ []) g) (is : IsTerm x ks t) (free : k.free + symbols t ≡ m.free) (long : length k.nodes ≡ length m.nodes) where
   gap : occs i s.held ≡ 0
   gap = let o = w.once i in let y = hit_self i in omega arith
 
@@ -35,9 +35,9 @@ module _ (m : Memory) (s : Sound m) (t : Term) (k : Memory) (i : ℕ) (x : Optio
         held = also i x ks t s.held;
         gone = g;
         terms = (
-          omega (arith, w.first.0),
-          get_or-set_same k.nodes i n vacant w.first.0 ∙ (λ d. record { symbol = (w.first.1 d).symbol; first = (w.first.1 d).first; next = Some i }),
-          keep_set k.nodes i n ks (omega arith) w.first.2,
+          omega (arith, w.rows.0.0),
+          get_or-set_same k.nodes i n vacant w.rows.0.0 ∙ (λ d. record { symbol = (w.rows.0.1 d).symbol; first = (w.rows.0.1 d).first; next = Some i }),
+          keep_set k.nodes i n ks (omega arith) w.rows.0.2,
           is,
           keep_all_set k.nodes i n s.held gap w.terms,
         );
@@ -59,23 +59,23 @@ module _ (m : Memory) (s : Sound m) (t : Term) (k : Memory) (i : ℕ) (x : Optio
     free = free;
   }
 
-pub fetched : (m k k′ : Memory) (s : Sound m) (t : Term) (n : ℕ) (r : ℕ) → k′ ≡ marked k r → symbols t ≡ n → Built m s.held (cons t nil) n k (Some r) → Fetched m t k′ (Some r)
+pub fetched : (m k k′ : Memory) (s : Sound m) (t : Term) (n : ℕ) (r : ℕ) → k′ ≡ marked k r → symbols t ≡ n → Built m s.held [] (cons t nil) n k (Some r) → Fetched m t k′ (Some r)
 fetched m k k′ s t n r e z b = go b.new b.begins b.work b.terms
   where
     end : (q : Placed) → AreTerms q nil → none ≡ q
     end none a = refl
     end (at i x ks us) a = absurd a
 
-    go : (q : Placed) → link q ≡ Some r → Work k s.held q none b.gone → AreTerms q (cons t nil) → Fetched m t k′ (Some r)
+    go : (q : Placed) → link q ≡ Some r → Work k s.held (q ∷ []) b.gone → AreTerms q (cons t nil) → Fetched m t k′ (Some r)
     go none l w a = absurd a
     go (at i x ks us) l w a =
         let v : i ≡ r = cc in
-        let w′ : Work k s.held (at i x ks none) none b.gone = subst (λ u. Work k s.held (at i x ks u) none b.gone) (sym (end us a.1)) w in
+        let w′ : Work k s.held (at i x ks none ∷ []) b.gone = subst (λ u. Work k s.held (at i x ks u ∷ []) b.gone) (sym (end us a.1)) w in
         let f : k.free + symbols t ≡ m.free = ap (λ c. k.free + c) z ∙ b.free in
         subst (λ y. Fetched m t y (Some r)) (sym e) (subst (λ y. Fetched m t (marked k y) (Some y)) v (held_sound m s t k i x ks b.gone w′ a.0 f b.long, now_held m s t k i x ks b.gone w′ a.0 f b.long))
 
-pub not_built : (m k : Memory) (h : Held) (t : Term) (n : ℕ) → Built m h (cons t nil) n k None → ⊥
-not_built m k h t n b = go b.new b.begins b.terms
+pub not_built : (m k : Memory) (h : Held) (qs : List Placed) (t : Term) (n : ℕ) → Built m h qs (cons t nil) n k None → ⊥
+not_built m k h qs t n b = go b.new b.begins b.terms
   where
     go : (q : Placed) → link q ≡ None → AreTerms q (cons t nil) → ⊥
     go none l a = a
@@ -87,8 +87,8 @@ few_nodes m s = let x = small (length m.nodes) s.few in omega arith
 pub few_symbols : (m : Memory) → Sound m → (n : ℕ) → n ≤ m.free → n ≤ most_symbols
 few_symbols m s n f = omega (arith, s.whole, s.few)
 
-pub fetched_of : (m k k′ : Memory) (s : Sound m) (t : Term) (n a r : ℕ) → a ≡ n → k′ ≡ marked k r → symbols t ≡ n → Built m s.held (cons t nil) a k (Some r) → Fetched m t k′ (Some r)
-fetched_of m k k′ s t n a r e z y b = fetched m k k′ s t n r z y (subst (λ i. Built m s.held (cons t nil) i k (Some r)) e b)
+pub fetched_of : (m k k′ : Memory) (s : Sound m) (t : Term) (n a r : ℕ) → a ≡ n → k′ ≡ marked k r → symbols t ≡ n → Built m s.held [] (cons t nil) a k (Some r) → Fetched m t k′ (Some r)
+fetched_of m k k′ s t n a r e z y b = fetched m k k′ s t n r z y (subst (λ i. Built m s.held [] (cons t nil) i k (Some r)) e b)
 
 pub fetched_sound : (m k : Memory) (t : Term) (r : Option ℕ) → Fetched m t k r → Sound k
 fetched_sound m k t None f = absurd f

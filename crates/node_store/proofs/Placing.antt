@@ -1,10 +1,11 @@
 -- Rows of nodes: what a write leaves as it was.
-use Rattle.std.proofs.Common.{◌≡◌, ◌≢◌, ℕ, ◌≤◌, List, length, get_or, set, refl, ap, ◌∙◌, subst, arith}
+use Rattle.std.proofs.Common.{◌≡◌, ◌≢◌, ℕ, ◌≤◌, List, [], ◌∷◌, length, get_or, set, refl, ap, ◌∙◌, subst, arith}
 use Rattle.std.proofs.lemmas.Bool.{eq-eqb}
 use Rattle.std.proofs.lemmas.List.{get_or-set_other, length-set}
 use Rattle.terms.specs.declared.node.Node.{Node}
 use Rattle.terms.specs.Nodes.{vacant}
 use Rattle.node_store.specs.Placed.{Placed, none, at, Holds, hit, occ, Held, no_term, also, AllHeld, occs}
+use Rattle.node_store.specs.Work.{HoldAll, occ_all}
 
 pub hit_self : (i : ℕ) → hit i i ≡ 1
 hit_self i = rw (eq-eqb i i refl) refl
@@ -35,3 +36,7 @@ keep_set ns i x q o h =
 pub keep_all_set : (ns : List Node) (i : ℕ) (x : Node) (q : Held) → occs i q ≡ 0 → AllHeld ns q → AllHeld (set ns i x) q
 keep_all_set ns i x q o h =
     keep_all ns (set ns i x) (length-set ns i x) q (λ j u. get_or-set_other ns i j x vacant (λ e. let z : occs j q ≡ occs i q = ap (λ w. occs w q) e in omega arith)) h
+
+pub keep_rows_set : (ns : List Node) (i : ℕ) (x : Node) (qs : List Placed) → occ_all i qs ≡ 0 → HoldAll ns qs → HoldAll (set ns i x) qs
+keep_rows_set ns i x [] o h = tt
+keep_rows_set ns i x (q ∷ qs) o h = (keep_set ns i x q (omega arith) h.0, keep_rows_set ns i x qs (omega arith) h.1)
