@@ -4,3 +4,4 @@ pub mod Sound
 pub mod Work
 pub mod Loading
 pub mod Tracing
+pub mod Grafting

@@ -4,7 +4,7 @@ use Rattle.terms.specs.Term.{Term, variable, instrument, apply, Terms, nil, cons
 use Rattle.terms.specs.View.{Answers, Stands}
 use Rattle.terms.specs.Nodes.{vacant}
 use Rattle.traversal.specs.Walks.{most_symbols}
-use Rattle.node_store.specs.Memory.{Memory, written}
+use Rattle.node_store.specs.Memory.{Memory, linked}
 use Rattle.node_store.specs.Placed.{Placed, link, Held, AreTerms}
 use Rattle.node_store.specs.Sound.{Sound, held_at}
 use Rattle.node_store.specs.Work.{Work}
@@ -41,11 +41,11 @@ pub record Built (m : Memory) (h : Held) (qs : List Placed) (ts : Terms) (n : �
 
 -- without the next sibling of the node at a place
 abbrev pub ended : Memory → ℕ → Memory
-ended m p = written m p (record { symbol = (slice_index_or m.nodes p vacant).symbol; first = (slice_index_or m.nodes p vacant).first; next = None })
+ended m p = linked m p None
 
 -- the root at a place is marked as a held one
 abbrev pub marked : Memory → ℕ → Memory
-marked m p = written m p (record { symbol = (slice_index_or m.nodes p vacant).symbol; first = (slice_index_or m.nodes p vacant).first; next = Some p })
+marked m p = linked m p (Some p)
 
 -- the term is held at a place where none was, and all others are held as they were
 pub record NowHeld (m : Memory) (t : Term) (k : Memory) (p : ℕ) : Type 0 where

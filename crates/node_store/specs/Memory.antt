@@ -1,6 +1,7 @@
 -- What a store is: its nodes, the mark from which on none was in use, the row of those given back, and how many are free.
 use Rattle.std.specs.Prelude.{ℕ, ◌+◌, List, replicate, Some, None, Option, slice_index_or, slice_set}
 use Rattle.terms.specs.declared.node.Node.{Node}
+use Rattle.terms.specs.declared.symbol.Symbol.{Symbol}
 use Rattle.terms.specs.Nodes.{vacant}
 use Rattle.node_store.specs.declared.store.Store.{Store}
 
@@ -29,3 +30,15 @@ given m p n = record {
   freed = Some p;
   free = m.free + n;
 }
+
+-- with the node at a place alone, and nothing below it, ahead of the row of those given back
+abbrev pub freed_at : Memory → ℕ → Memory
+freed_at m p = record { nodes = slice_set m.nodes p (record { symbol = None; first = None; next = m.freed }); fresh = m.fresh; freed = Some p; free = m.free + 1 }
+
+-- with another next sibling of the node at a place
+abbrev pub linked : Memory → ℕ → Option ℕ → Memory
+linked m p l = written m p (record { symbol = (slice_index_or m.nodes p vacant).symbol; first = (slice_index_or m.nodes p vacant).first; next = l })
+
+-- with another symbol at a place, and another row of arguments
+abbrev pub laid_over : Memory → ℕ → Option Symbol → Option ℕ → Memory
+laid_over m p s l = written m p (record { symbol = s; first = l; next = (slice_index_or m.nodes p vacant).next })

@@ -17,6 +17,11 @@ abbrev pub occ_all : ℕ → List Placed → ℕ
 occ_all j [] = 0
 occ_all j (q ∷ qs) = occ j q + occ_all j qs
 
+-- how many nodes the rows have
+abbrev pub size_all : List Placed → ℕ
+size_all [] = 0
+size_all (q ∷ qs) = size q + size_all qs
+
 -- each place is in exactly one held term or row, or given back, or was never in use, and the free nodes are counted
 pub record Work (m : Memory) (h : Held) (qs : List Placed) (g : Placed) : Type 0 where
   pub terms : AllHeld m.nodes h

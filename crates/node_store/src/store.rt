@@ -1,6 +1,6 @@
 ghost use Rattle.std.specs.Prelude.{◌≡◌, ◌+◌, ◌<◌, ◌^◌, length, slice_index_or};
 ghost use Rattle.terms.specs.Nodes.{vacant, along};
-ghost use Rattle.node_store.specs.Memory.{memory, cleared, written, given};
+ghost use Rattle.node_store.specs.Memory.{memory, cleared, written, given, freed_at, linked, laid_over};
 ghost use Rattle.node_store.specs.Work.{Settles, turned, reused, opened, FirstUnused, Joins};
 ghost use Rattle.node_store.specs.Loading.{ended, marked};
 ghost use Rattle.node_store.specs.Sound.{leads};
@@ -117,19 +117,56 @@ impl<'n> Store<'n> {
         ensures memory { memory self.new ≡ ended (memory self.old) place }
         ensures next { result ≡ (slice_index_or (memory self.old).nodes place vacant).next }
     {
-        let node = self.node(place);
-        let next = None;
-        self.put(place, Node { next, ..node });
-        node.next
+        let next = self.node(place).next;
+        self.link(place, None);
+        next
     }
 
     // Makes the node at a place its own next sibling.
     pub fn mark(&mut self, place: u16)
         ensures { memory self.new ≡ marked (memory self.old) place }
     {
+        self.link(place, Some(place));
+    }
+
+    // Makes another node the next sibling of the node at a place.
+    pub fn link(&mut self, place: u16, next: Option<u16>)
+        ensures { memory self.new ≡ linked (memory self.old) place next }
+    {
         let node = self.node(place);
-        let next = Some(place);
         self.put(place, Node { next, ..node });
+    }
+
+    // Puts another symbol at a place, over another row of arguments.
+    pub fn put_under(&mut self, place: u16, symbol: Option<Symbol>, first: Option<u16>)
+        ensures { memory self.new ≡ laid_over (memory self.old) place symbol first }
+    {
+        let old = self.node(place);
+        self.put(
+            place,
+            Node {
+                symbol,
+                first,
+                ..old
+            },
+        );
+    }
+
+    // Frees the node at a place alone.
+    pub fn free_node(&mut self, place: u16)
+        requires { (memory self.old).free + 1 < 2 ^ 64 }
+        ensures { memory self.new ≡ freed_at (memory self.old) place }
+    {
+        self.put(
+            place,
+            Node {
+                symbol: None,
+                first: None,
+                next: self.freed,
+            },
+        );
+        self.freed = Some(place);
+        self.free += 1;
     }
 
     // Makes a free node the first of a row: its arguments and its later siblings stand already. Nothing where no node is free.
