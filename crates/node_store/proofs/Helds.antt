@@ -1,6 +1,7 @@
 -- The held terms, and what the nodes say of them.
-use Rattle.std.proofs.Common.{◌≡◌, ◌≢◌, ℕ, ◌+◌, ◌*◌, ◌<◌, ◌≤◌, ◌==◌, nat_le, Bool, true, false, cond, List, length, get_or, Some, None, Option, sym, refl, ap, ◌∙◌, subst, ⊎_elim, arith}
+use Rattle.std.proofs.Common.{◌≡◌, ◌≢◌, ℕ, ◌+◌, ◌*◌, ◌<◌, ◌≤◌, ◌==◌, nat_le, Bool, true, false, cond, List, length, get_or, set, Some, None, Option, sym, refl, ap, ◌∙◌, subst, ⊎_elim, arith}
 use Rattle.std.proofs.lemmas.Bool.{cases_lt, le-leb, eq-eqb, leb-true}
+use Rattle.std.proofs.lemmas.List.{get_or-set_other}
 use Rattle.terms.specs.declared.node.Node.{Node}
 use Rattle.terms.specs.declared.symbol.Symbol.{Symbol}
 use Rattle.std.proofs.Math.Decide.{ℕ_discrete}
@@ -102,6 +103,10 @@ unused_none f j h = go (nat_le f j) refl
 
 pub unused_some : (f j : ℕ) → f ≤ j → unused f j ≡ 1
 unused_some f j h = ap (λ c. cond c 1 0) (le-leb f j h)
+
+-- a write elsewhere than at a place that was never in use leaves those vacant
+pub blank_set : (ns : List Node) (f i : ℕ) (x : Node) → unused f i ≡ 0 → ((j : ℕ) → f ≤ j → get_or ns j vacant ≡ vacant) → (j : ℕ) → f ≤ j → get_or (set ns i x) j vacant ≡ vacant
+blank_set ns f i x o b j h = get_or-set_other ns i j x vacant (λ e. let z : unused f i ≡ 1 = unused_some f i (subst (λ k. f ≤ k) e h) in let w : ⊥ = omega arith in w) ∙ b j h
 
 pub leads_not : (o : Option ℕ) (p : ℕ) → o ≢ Some p → leads o p ≡ false
 leads_not None p n = refl
