@@ -14,7 +14,7 @@ use Rattle.node_store.specs.Sound.{unused}
 use Rattle.node_store.specs.Work.{Work, Joined}
 use Rattle.node_store.specs.Loading.{arguments_of, before, Built, ended}
 use Rattle.node_store.proofs.Placing.{hit_self, keep_set, keep_all_set, keep_rows_set}
-use Rattle.node_store.proofs.Helds.{unused_some}
+use Rattle.node_store.proofs.Helds.{blank_set}
 use Rattle.node_store.proofs.Tracing.{row_stands}
 use Rattle.node_store.proofs.Rows.{with_none}
 
@@ -165,7 +165,7 @@ module _ (v : Answers) (m : Memory) (h : Held) (q : Placed) (qs : List Placed) (
               begins = w.begins;
               row = keep_set m.nodes c.last b g (omega arith) w.row;
               once = λ j. let o = w.once j in let d = c.places j in omega arith;
-              blank = λ j y. get_or-set_other m.nodes c.last j b vacant (λ e. let v : unused m.fresh c.last ≡ 1 = unused_some m.fresh c.last (subst (λ k. m.fresh ≤ k) e y) in let w : ⊥ = omega arith in w) ∙ w.blank j y;
+              blank = blank_set m.nodes m.fresh c.last b (omega arith) w.blank;
               within = omega (arith, w.within);
               count = omega (arith, w.count);
             };

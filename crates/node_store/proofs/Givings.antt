@@ -14,7 +14,7 @@ use Rattle.node_store.specs.Placed.{at, link, hit, Held, no_term, also, occs, te
 use Rattle.node_store.specs.Sound.{Sound, unused, leads, held_at, symbols_of}
 use Rattle.node_store.proofs.Placing.{hit_self, keep_set, keep_all_set}
 use Rattle.node_store.proofs.Standing.{term_stands, term_size, hit_cases}
-use Rattle.node_store.proofs.Helds.{Out, out, hit_yes, hit_none, unused_some, held_is}
+use Rattle.node_store.proofs.Helds.{Out, out, hit_yes, hit_none, blank_set, held_is}
 
 -- a held term is in the places of the held terms
 pub term_occ : (h : Held) (p : ℕ) → occs p h ≡ 0 → term_at h p ≡ None
@@ -45,7 +45,7 @@ module _ (m : Memory) (s : Sound m) (p : ℕ) (t : Term) (is : term_at s.held p 
         begins = refl;
         row = (omega (arith, w.within), get_or-set_same m.nodes p n vacant w.within ∙ e, keep_set m.nodes p n w.under (omega arith) w.row, keep_set m.nodes p n s.gone (omega arith) s.row);
         once = λ j. let a = s.once j in let b = w.places j in omega arith;
-        blank = λ j h. get_or-set_other m.nodes p j n vacant (λ z. let a : unused m.fresh p ≡ 1 = unused_some m.fresh p (subst (λ k. m.fresh ≤ k) z h) in omega arith) ∙ s.blank j h;
+        blank = blank_set m.nodes m.fresh p n (omega arith) s.blank;
         within = omega (arith, s.within);
         count = omega (arith, s.count);
         whole = omega (arith, s.whole);

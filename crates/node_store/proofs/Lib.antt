@@ -4,6 +4,9 @@ pub mod Sounding
 pub mod Helds
 pub mod Givings
 pub mod Rows
+pub mod Counting
+pub mod Resting
+pub mod Grafts
 pub mod Turning
 pub mod Tracing
 pub mod Cutting

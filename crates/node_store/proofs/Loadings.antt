@@ -13,7 +13,7 @@ use Rattle.node_store.specs.Work.{Work}
 use Rattle.node_store.specs.Loading.{Built, marked, NowHeld, Fetched}
 use Rattle.node_store.proofs.Placing.{hit_self, keep_set, keep_all_set}
 use Rattle.node_store.proofs.Standing.{term_size}
-use Rattle.node_store.proofs.Helds.{unused_some, held_is}
+use Rattle.node_store.proofs.Helds.{blank_set, held_is}
 use Rattle.node_store.proofs.Givings.{term_occ}
 use Rattle.node_store.proofs.Tracing.{small}
 
@@ -44,7 +44,7 @@ module _ (m : Memory) (s : Sound m) (t : Term) (k : Memory) (i : ℕ) (x : Optio
         begins = w.begins;
         row = keep_set k.nodes i n g (omega arith) w.row;
         once = λ j. let o = w.once j in omega arith;
-        blank = λ j f. get_or-set_other k.nodes i j n vacant (λ e. let v : unused k.fresh i ≡ 1 = unused_some k.fresh i (subst (λ c. k.fresh ≤ c) e f) in let z : ⊥ = omega arith in z) ∙ w.blank j f;
+        blank = blank_set k.nodes k.fresh i n (omega arith) w.blank;
         within = omega (arith, w.within);
         count = omega (arith, w.count);
         whole = omega (arith, s.whole);

@@ -11,7 +11,7 @@ use Rattle.node_store.specs.Sound.{unused}
 use Rattle.node_store.specs.Work.{Work, below, Turned, turned, reused, opened, FirstUnused, Joined}
 use Rattle.node_store.proofs.Placing.{hit_self, no_hit, keep_set, keep_all_set, keep_rows_set}
 use Rattle.node_store.proofs.Standing.{hit_cases}
-use Rattle.node_store.proofs.Helds.{unused_none, unused_some}
+use Rattle.node_store.proofs.Helds.{unused_none, unused_some, blank_set}
 
 below_size : (g : Placed) → below g ≤ size g
 below_size none = omega arith
@@ -95,10 +95,7 @@ module _ (m : Memory) (h : Held) (qs : List Placed) (i k : ℕ) (s t : Option Sy
           ),
         );
         once = λ j. let o = w.once j in omega arith;
-        blank = λ j f.
-            let o = w.once j in
-            let u = unused_some m.fresh j f in
-            get_or-set_other (set m.nodes i n₁) k j n₂ vacant (no_hit j k (omega arith)) ∙ get_or-set_other m.nodes i j n₁ vacant (no_hit j i (omega arith)) ∙ w.blank j f;
+        blank = blank_set (set m.nodes i n₁) m.fresh k n₂ (omega arith) (blank_set m.nodes m.fresh i n₁ (omega arith) w.blank);
         within = omega (arith, w.within);
         count = omega (arith, w.count);
       }
@@ -181,7 +178,7 @@ module _ (m : Memory) (h : Held) (a b : Placed) (qs : List Placed) (k : Memory) 
               begins = sym (ap (λ (n : Node). n.next) w′.row.1) ∙ ap (λ j. (get_or k.nodes j vacant).next) y;
               row = keep_set k.nodes p x us (omega arith) w′.row.3;
               once = λ j. let o = w′.once j in let e : hit j p ≡ hit j i = ap (hit j) (sym y) in let z = ap (occ j) (bare ks (omega arith)) in omega arith;
-              blank = λ j q. let u = unused_some k.fresh j q in get_or-set_other k.nodes p j x vacant (λ z. let v : unused k.fresh p ≡ 1 = subst (λ c. unused k.fresh c ≡ 1) z u in omega arith) ∙ w′.blank j q;
+              blank = blank_set k.nodes k.fresh p x (omega arith) w′.blank;
               within = omega (arith, w′.within);
               count = omega arith;
             },
