@@ -10,7 +10,6 @@ use Rattle.traversal.specs.Rows.{row_of, StandAll}
 use Rattle.traversal.proofs.Rows.{row_short}
 use Rattle.node_store.specs.Memory.{Memory}
 use Rattle.node_store.specs.Placed.{Placed, none, at, link, Holds, hit, occ, IsTerm, AreTerms, Held}
-use Rattle.node_store.specs.Sound.{unused}
 use Rattle.node_store.specs.Work.{Work, Joined}
 use Rattle.node_store.specs.Loading.{arguments_of, before, Built, ended}
 use Rattle.node_store.proofs.Placing.{hit_self, keep_set, keep_all_set, keep_rows_set}

@@ -1,6 +1,6 @@
 -- Giving a held term back.
 use Rattle.std.proofs.Common.{◌≡◌, ℕ, ◌+◌, ◌*◌, ◌≤◌, ◌==◌, true, cond, get_or, Some, None, sym, refl, ap, ◌∙◌, subst, ⊎_elim, arith}
-use Rattle.std.proofs.lemmas.List.{get_or-set_same, get_or-set_other, length-set}
+use Rattle.std.proofs.lemmas.List.{get_or-set_same, length-set}
 use Rattle.terms.specs.declared.node.Node.{Node}
 use Rattle.terms.specs.Term.{Term, symbols}
 use Rattle.terms.specs.Nodes.{vacant}
@@ -11,7 +11,7 @@ use Rattle.terms.proofs.Standing.{one_at_a_place}
 use Rattle.traversal.specs.Walks.{most_symbols, StandsWith, Counted}
 use Rattle.node_store.specs.Memory.{Memory, given}
 use Rattle.node_store.specs.Placed.{at, link, hit, Held, no_term, also, occs, term_at}
-use Rattle.node_store.specs.Sound.{Sound, unused, leads, held_at, symbols_of}
+use Rattle.node_store.specs.Sound.{Sound, leads, held_at, symbols_of}
 use Rattle.node_store.proofs.Placing.{hit_self, keep_set, keep_all_set}
 use Rattle.node_store.proofs.Standing.{term_stands, term_size, hit_cases}
 use Rattle.node_store.proofs.Helds.{Out, out, hit_yes, hit_none, blank_set, held_is}

@@ -1,19 +1,14 @@
 -- Another symbol and another row of arguments at one place of a row.
-use Rattle.std.proofs.Common.{◌≡◌, ◌≢◌, ℕ, ◌+◌, ◌<◌, ◌≤◌, ◌==◌, cond, Bool, true, false, List, [], ◌∷◌, length, get_or, set, Some, Option, sym, refl, ap, ◌∙◌, subst, ⊎_elim, ◌⊎◌, inl, inr, arith}
-use Rattle.std.proofs.lemmas.Bool.{eq-eqb}
+use Rattle.std.proofs.Common.{◌≡◌, ℕ, ◌+◌, ◌<◌, ◌≤◌, ◌==◌, cond, Bool, true, false, List, length, get_or, set, Option, sym, refl, ap, ◌∙◌, subst, ⊎_elim, arith}
 use Rattle.std.proofs.lemmas.List.{get_or-set_same, get_or-set_other, length-set}
 use Rattle.terms.specs.declared.node.Node.{Node}
 use Rattle.terms.specs.declared.symbol.Symbol.{Symbol}
-use Rattle.terms.specs.Term.{Term}
 use Rattle.terms.specs.Nodes.{vacant}
-use Rattle.node_store.specs.Memory.{Memory, laid_over}
-use Rattle.node_store.specs.Placed.{Placed, none, at, link, Holds, hit, occ, size, IsTerm, Held, also}
-use Rattle.node_store.specs.Sound.{unused}
-use Rattle.node_store.specs.Work.{Work}
+use Rattle.node_store.specs.Placed.{Placed, none, at, link, Holds, hit, occ, size}
 use Rattle.node_store.specs.Grafting.{graft, Sub, here, under, later}
-use Rattle.node_store.proofs.Placing.{hit_self, no_hit, keep_set, keep_all_set, keep_rows_set}
+use Rattle.node_store.proofs.Placing.{hit_self, no_hit, keep_set}
 use Rattle.node_store.proofs.Standing.{hit_cases}
-use Rattle.node_store.proofs.Helds.{hit_yes, hit_none, blank_set}
+use Rattle.node_store.proofs.Helds.{hit_yes, hit_none}
 
 -- the sum over the places of a row
 abbrev pub total : (ℕ → ℕ) → Placed → ℕ

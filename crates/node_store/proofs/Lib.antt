@@ -7,6 +7,7 @@ pub mod Rows
 pub mod Counting
 pub mod Resting
 pub mod Grafts
+pub mod Regrafting
 pub mod Turning
 pub mod Tracing
 pub mod Cutting

@@ -1,6 +1,6 @@
 -- Holding a term whose nodes are made.
 use Rattle.std.proofs.Common.{◌≡◌, ℕ, ◌+◌, ◌≤◌, ◌==◌, cond, List, [], ◌∷◌, length, get_or, Some, None, Option, sym, refl, ap, ◌∙◌, subst, arith}
-use Rattle.std.proofs.lemmas.List.{get_or-set_same, get_or-set_other, length-set}
+use Rattle.std.proofs.lemmas.List.{get_or-set_same, length-set}
 use Rattle.terms.specs.declared.node.Node.{Node}
 use Rattle.terms.specs.declared.symbol.Symbol.{Symbol}
 use Rattle.terms.specs.Term.{Term, nil, cons, symbols}
@@ -8,7 +8,7 @@ use Rattle.terms.specs.Nodes.{vacant}
 use Rattle.traversal.specs.Walks.{most_symbols}
 use Rattle.node_store.specs.Memory.{Memory}
 use Rattle.node_store.specs.Placed.{Placed, none, at, link, IsTerm, AreTerms, Held, also, occs}
-use Rattle.node_store.specs.Sound.{Sound, unused}
+use Rattle.node_store.specs.Sound.{Sound}
 use Rattle.node_store.specs.Work.{Work}
 use Rattle.node_store.specs.Loading.{Built, marked, NowHeld, Fetched}
 use Rattle.node_store.proofs.Placing.{hit_self, keep_set, keep_all_set}

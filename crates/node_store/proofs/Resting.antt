@@ -1,16 +1,15 @@
 -- A held term aside of the others while its nodes change, and the invariant of a pool when all is at rest again.
-use Rattle.std.proofs.Common.{◌≡◌, ℕ, ◌+◌, ◌≤◌, ◌==◌, cond, true, Bool, List, [], length, Some, Option, sym, refl, ap, ◌∙◌, subst, ⊎_elim, arith}
+use Rattle.std.proofs.Common.{◌≡◌, ℕ, ◌+◌, ◌≤◌, ◌==◌, cond, List, [], length, Some, Option, sym, ap, ◌∙◌, ⊎_elim, arith}
 use Rattle.terms.specs.declared.symbol.Symbol.{Symbol}
 use Rattle.terms.specs.Term.{Term, symbols}
 use Rattle.traversal.specs.Walks.{most_symbols}
 use Rattle.node_store.specs.Memory.{Memory}
-use Rattle.node_store.specs.Placed.{Placed, Held, also, sizes, term_at}
+use Rattle.node_store.specs.Placed.{Placed, Held, also, term_at}
 use Rattle.node_store.specs.Sound.{Sound, held_at}
 use Rattle.node_store.specs.Work.{Work}
 use Rattle.node_store.proofs.Standing.{term_size, hit_cases}
 use Rattle.node_store.proofs.Helds.{out, hit_yes, hit_none, held_is}
 use Rattle.node_store.proofs.Counting.{all_nodes}
-use Rattle.node_store.proofs.Loadings.{at_work}
 
 -- the term held at a place is the first of the held terms
 pub record Apart (m : Memory) (h : Held) (qs : List Placed) (g : Placed) (p : ℕ) (t : Term) : Type 0 where

@@ -1,12 +1,11 @@
 -- The rows beside held terms: their order, and what is written at the first node of one.
-use Rattle.std.proofs.Common.{◌≡◌, ℕ, ◌+◌, ◌<◌, ◌≤◌, List, [], ◌∷◌, ◌++◌, length, get_or, set, None, Option, sym, refl, ap, ◌∙◌, arith}
+use Rattle.std.proofs.Common.{◌≡◌, ℕ, ◌+◌, ◌<◌, ◌≤◌, List, [], ◌∷◌, ◌++◌, length, get_or, set, None, Option, sym, refl, ◌∙◌, arith}
 use Rattle.std.proofs.lemmas.List.{get_or-set_same, length-set}
 use Rattle.terms.specs.declared.node.Node.{Node}
 use Rattle.terms.specs.declared.symbol.Symbol.{Symbol}
 use Rattle.terms.specs.Nodes.{vacant}
 use Rattle.node_store.specs.Memory.{Memory, given, freed_at, linked}
-use Rattle.node_store.specs.Placed.{Placed, none, at, link, Holds, occ, size, Held, AllHeld}
-use Rattle.node_store.specs.Sound.{unused}
+use Rattle.node_store.specs.Placed.{Placed, none, at, link, Holds, size, Held, AllHeld}
 use Rattle.node_store.specs.Work.{Work, HoldAll, occ_all}
 use Rattle.node_store.specs.Loading.{ended}
 use Rattle.node_store.proofs.Placing.{hit_self, keep_set, keep_all_set, keep_rows_set}

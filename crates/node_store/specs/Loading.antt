@@ -1,8 +1,7 @@
 -- What a term's nodes are made from: the places of its symbols in a view.
-use Rattle.std.specs.Prelude.{◌≡◌, ℕ, ◌+◌, ◌==◌, ◌≤◌, cond, List, [], ◌∷◌, length, Some, None, Option, slice_index_or}
+use Rattle.std.specs.Prelude.{◌≡◌, ℕ, ◌+◌, ◌==◌, ◌≤◌, cond, List, [], ◌∷◌, length, Some, None, Option}
 use Rattle.terms.specs.Term.{Term, variable, instrument, apply, Terms, nil, cons, symbols}
 use Rattle.terms.specs.View.{Answers, Stands}
-use Rattle.terms.specs.Nodes.{vacant}
 use Rattle.traversal.specs.Walks.{most_symbols}
 use Rattle.node_store.specs.Memory.{Memory, linked}
 use Rattle.node_store.specs.Placed.{Placed, link, Held, AreTerms}
