@@ -1,5 +1,5 @@
 -- Giving a held term back.
-use Rattle.std.proofs.Common.{◌≡◌, ℕ, ◌+◌, ◌*◌, ◌≤◌, ◌==◌, true, cond, get_or, Some, None, sym, refl, ap, ◌∙◌, subst, ⊎_elim, arith}
+use Rattle.std.proofs.Common.{◌≡◌, ℕ, ◌+◌, ◌*◌, ◌==◌, true, cond, length, get_or, Some, None, sym, refl, ap, ◌∙◌, subst, ⊎_elim, arith}
 use Rattle.std.proofs.lemmas.List.{get_or-set_same, length-set}
 use Rattle.terms.specs.declared.node.Node.{Node}
 use Rattle.terms.specs.Term.{Term, symbols}
@@ -14,6 +14,7 @@ use Rattle.node_store.specs.Placed.{at, link, hit, Held, no_term, also, occs, te
 use Rattle.node_store.specs.Sound.{Sound, leads, held_at, symbols_of}
 use Rattle.node_store.proofs.Placing.{hit_self, keep_set, keep_all_set}
 use Rattle.node_store.proofs.Standing.{term_stands, term_size, hit_cases}
+use Rattle.node_store.proofs.Tracing.{small}
 use Rattle.node_store.proofs.Helds.{Out, out, hit_yes, hit_none, blank_set, held_is}
 
 -- a held term is in the places of the held terms
@@ -37,6 +38,7 @@ module _ (m : Memory) (s : Sound m) (p : ℕ) (t : Term) (is : term_at s.held p 
       let y = hit_self p in
       let many = term_size w.symbol w.under t w.is in
       let all = w.count in
+      let few = small (length m.nodes) s.few in
       let e : n ≡ record { symbol = None; first = link w.under; next = link s.gone } = λ i. record { symbol = None; first = (w.node i).first; next = sym s.begins i } in
       record {
         held = w.others;
@@ -47,7 +49,7 @@ module _ (m : Memory) (s : Sound m) (p : ℕ) (t : Term) (is : term_at s.held p 
         once = λ j. let a = s.once j in let b = w.places j in omega arith;
         blank = blank_set m.nodes m.fresh p n (omega arith) s.blank;
         within = omega (arith, s.within);
-        count = omega (arith, s.count);
+        count = omega (arith, s.count, s.whole);
         whole = omega (arith, s.whole);
         few = omega (arith, s.few);
       }
@@ -84,24 +86,22 @@ no_root m s p e none = ∥∥₁_elim s (λ (x y : ⊥). absurd x) (λ s. let r 
 pub record Gave (m : Memory) (p n : ℕ) : Type 0 where
   pub sound : Sound (given m p n)
   pub held : (q : ℕ) → held_at (given m p n).nodes q ≡ cond (q == p) None (held_at m.nodes q)
-  pub free : m.free + n ≡ m.free + symbols_of (held_at m.nodes p)
-  pub few : m.free + n ≤ 16384
+  pub free : (given m p n).free ≡ m.free + symbols_of (held_at m.nodes p)
 
 pub gave : (m : Memory) (s : Sound m) (p n : ℕ) → true ≡ leads (get_or m.nodes p vacant).next p → Counted (node_answers m.nodes) p (Some n) → Gave m p n
-unfolding most_symbols
 gave m s p n e c =
     let r = rooted m s p e in
     let one = one_at_a_place (node_answers m.nodes) p c.0 r.term c.1.0 r.stands.0 in
     let many : symbols r.term ≡ n = sym (ap symbols one) ∙ c.2 in
     let x = given_sound m s p r.term r.is in
-    let w = x.whole in
-    let l = x.few in
     let long = length-set m.nodes p (record { symbol = None; first = (get_or m.nodes p vacant).first; next = m.freed }) in
+    let few = small (length m.nodes) s.few in
+    let now = x.whole in
+    let whole = s.whole in
     record {
       sound = subst (λ k. Sound (given m p k)) many x;
       held = subst (λ k. (q : ℕ) → held_at (given m p k).nodes q ≡ cond (q == p) None (held_at m.nodes q)) many (given_held m s p r.term r.is);
-      free = ap (λ k. m.free + k) (sym many) ∙ sym (ap (λ o. m.free + symbols_of o) (held_is m s p ∙ r.is));
-      few = omega (arith, s.whole);
+      free = (let z : (given m p n).free ≡ m.free + n = omega (arith, now) in z) ∙ ap (λ k. m.free + k) (sym many) ∙ sym (ap (λ o. m.free + symbols_of o) (held_is m s p ∙ r.is));
     }
 
 pub held_stands : (m : Memory) (s : Sound m) (p : ℕ) (t : Term) → held_at m.nodes p ≡ Some t → StandsWith (node_answers m.nodes) p t

@@ -10,6 +10,7 @@ use Rattle.node_store.specs.Work.{Work, HoldAll, occ_all}
 use Rattle.node_store.specs.Loading.{ended}
 use Rattle.node_store.proofs.Placing.{hit_self, keep_set, keep_all_set, keep_rows_set}
 use Rattle.node_store.proofs.Helds.{blank_set}
+use Rattle.node_store.proofs.Counting.{all_nodes}
 
 -- other rows of the same nodes
 pub rearranged : (m : Memory) (h : Held) (qs rs : List Placed) (g : Placed) → HoldAll m.nodes rs → ((j : ℕ) → occ_all j rs ≡ occ_all j qs) → Work m h qs g → Work m h rs g
@@ -75,10 +76,11 @@ module _ (m : Memory) (h : Held) (i : ℕ) (s : Option Symbol) (ks : Placed) whe
       }
 
   -- its first node is freed alone
-  pub node_freed : (us : Placed) (qs : List Placed) (g : Placed) → Work m h (at i s ks us ∷ qs) g → Work (freed_at m i) h (ks ∷ us ∷ qs) (at i None none g)
-  node_freed us qs g w =
+  pub node_freed : (us : Placed) (qs : List Placed) (g : Placed) → length m.nodes ≤ 65536 → Work m h (at i s ks us ∷ qs) g → Work (freed_at m i) h (ks ∷ us ∷ qs) (at i None none g)
+  node_freed us qs g few w =
       let x = write_first us qs g (record { symbol = None; first = None; next = m.freed }) w in
       let l = x.long in
+      let all = all_nodes m h (at i s ks us ∷ qs) g w in
       record {
         terms = x.terms;
         rows = (x.under, (x.later, x.rows));
@@ -123,10 +125,11 @@ module _ (m : Memory) (h : Held) (i : ℕ) (s : Option Symbol) (ks : Placed) whe
       }
 
   -- its only term is given back
-  pub row_given : (qs : List Placed) (g : Placed) (n : ℕ) → n ≡ 1 + size ks → Work m h (at i s ks none ∷ qs) g → Work (given m i n) h qs (at i None ks g)
-  row_given qs g n e w =
+  pub row_given : (qs : List Placed) (g : Placed) (n : ℕ) → n ≡ 1 + size ks → length m.nodes ≤ 65536 → Work m h (at i s ks none ∷ qs) g → Work (given m i n) h qs (at i None ks g)
+  row_given qs g n e few w =
       let x = write_first none qs g (record { symbol = None; first = (get_or m.nodes i vacant).first; next = m.freed }) w in
       let l = x.long in
+      let all = all_nodes m h (at i s ks none ∷ qs) g w in
       record {
         terms = x.terms;
         rows = x.rows;

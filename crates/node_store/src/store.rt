@@ -94,7 +94,6 @@ impl<'n> Store<'n> {
 
     // Frees the n nodes of the term at a place.
     pub fn give(&mut self, place: u16, n: usize)
-        requires { (memory self.old).free + n < 2 ^ 64 }
         ensures { memory self.new ≡ given (memory self.old) place n }
     {
         let first = self.node(place).first;
@@ -109,7 +108,7 @@ impl<'n> Store<'n> {
             },
         );
         self.freed = Some(place);
-        self.free += n;
+        self.free = self.free.saturating_add(n);
     }
 
     // Takes the next sibling off the node at a place, and answers it.
@@ -154,7 +153,6 @@ impl<'n> Store<'n> {
 
     // Frees the node at a place alone.
     pub fn free_node(&mut self, place: u16)
-        requires { (memory self.old).free + 1 < 2 ^ 64 }
         ensures { memory self.new ≡ freed_at (memory self.old) place }
     {
         self.put(
@@ -166,7 +164,7 @@ impl<'n> Store<'n> {
             },
         );
         self.freed = Some(place);
-        self.free += 1;
+        self.free = self.free.saturating_add(1);
     }
 
     // Makes a free node the first of a row: its arguments and its later siblings stand already. Nothing where no node is free.

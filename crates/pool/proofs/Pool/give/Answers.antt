@@ -1,7 +1,6 @@
-use Rattle.std.proofs.Common.{ap, ◌∙◌, arith}
+use Rattle.std.proofs.Common.{ap, ◌∙◌}
 use Rattle.std.proofs.Math.Logic.{∥∥₁_elim, ∥∥₁_map}
 use Rattle.std.proofs.Math.Nat.{ℕ_set}
-use Rattle.std.proofs.Math.Bridge.{le_prop}
 use Rattle.node_store.specs.Memory.{memory}
 use Rattle.node_store.specs.Sound.{held_at}
 use Rattle.node_store.proofs.Helds.{held_set}
@@ -16,9 +15,6 @@ returns-in_default-clause-held c = absurd (no_root (memory c.args.self.now.store
 
 pub returns-in_default-clause-free : goal.returns-in_default-clause-free
 returns-in_default-clause-free c = absurd (no_root (memory c.args.self.now.store) c.args.self.now.sound c.args.place c.if-not-is_root.ensures c.in_default.ensures)
-
-pub give-requires : goal.give-requires
-give-requires c = let l = ∥∥₁_elim c.args.self.now.sound le_prop (λ s. (gave _ s c.args.place c.in-Some.n c.if-not-is_root.ensures c.in-Some.ensures).few) in omega arith
 
 pub invariant_of-self : goal.invariant_of-self
 invariant_of-self c = record { sound = rw c.give.ensures (∥∥₁_map c.args.self.now.sound (λ s. (gave _ s c.args.place c.in-Some.n c.if-not-is_root.ensures c.in-Some.ensures).sound)) }
