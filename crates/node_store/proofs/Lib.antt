@@ -8,6 +8,7 @@ pub mod Counting
 pub mod Resting
 pub mod Grafts
 pub mod Regrafting
+pub mod Parts
 pub mod Turning
 pub mod Tracing
 pub mod Cutting

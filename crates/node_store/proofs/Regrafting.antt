@@ -13,6 +13,13 @@ use Rattle.node_store.proofs.Placing.{hit_self, no_hit, keep_set, keep_all_set, 
 use Rattle.node_store.proofs.Helds.{blank_set}
 use Rattle.node_store.proofs.Grafts.{sub_occs, sub_occ, sub_holds, sub_node, graft-here, graft-there, graft-link, occ-graft, graft_holds}
 
+-- no place is twice in a row, nor in a held term
+pub row_once : (m : Memory) (h : Held) (q : Placed) (qs : List Placed) (g : Placed) → Work m h (q ∷ qs) g → (j : ℕ) → occ j q ≤ 1
+row_once m h q qs g w j = let o = w.once j in omega arith
+
+pub held_once : (m : Memory) (r : ℕ) (s : Option Symbol) (ks : Placed) (t : Term) (h : Held) (qs : List Placed) (g : Placed) → Work m (also r s ks t h) qs g → (j : ℕ) → occ j (at r s ks none) ≤ 1
+held_once m r s ks t h qs g w j = let o = w.once j in omega arith
+
 -- what is written
 abbrev over : Memory → ℕ → Option Symbol → Option ℕ → Node
 over m p s l = record { symbol = s; first = l; next = (get_or m.nodes p vacant).next }
