@@ -5,7 +5,7 @@ use Rattle.terms.specs.declared.symbol.Symbol.{Symbol}
 use Rattle.terms.specs.Term.{Term, variable, instrument, apply, Terms, nil, cons, how_many}
 use Rattle.terms.specs.Position.{Position, part_at, part_in, put_at, put_in}
 use Rattle.rewriting.proofs.Filling.{none_some, part_root, put_root}
-use Rattle.node_store.specs.Placed.{Placed, none, at, link, occ, IsTerm, AreTerms}
+use Rattle.node_store.specs.Placed.{Placed, none, at, occ, IsTerm, AreTerms}
 use Rattle.node_store.specs.Grafting.{graft, Sub, here, under, later}
 use Rattle.node_store.proofs.Grafts.{sub_occ, graft-here, graft-there, graft-none}
 

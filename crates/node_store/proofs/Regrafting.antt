@@ -1,12 +1,12 @@
 -- Writing another symbol and another row of arguments at one node, in a row and in a held term.
-use Rattle.std.proofs.Common.{◌≡◌, ℕ, ◌<◌, List, ◌∷◌, length, get_or, Some, Option, sym, refl, ap, ◌∙◌, subst, ⊎_elim, ◌⊎◌, inl, inr, arith}
+use Rattle.std.proofs.Common.{◌≡◌, ℕ, ◌<◌, ◌≤◌, List, ◌∷◌, length, get_or, Some, Option, sym, refl, ap, ◌∙◌, subst, ⊎_elim, ◌⊎◌, inl, inr, arith}
 use Rattle.std.proofs.lemmas.List.{get_or-set_same, get_or-set_other, length-set}
 use Rattle.terms.specs.declared.node.Node.{Node}
 use Rattle.terms.specs.declared.symbol.Symbol.{Symbol}
 use Rattle.terms.specs.Term.{Term}
 use Rattle.terms.specs.Nodes.{vacant}
 use Rattle.node_store.specs.Memory.{Memory, laid_over}
-use Rattle.node_store.specs.Placed.{Placed, none, at, link, IsTerm, Held, also, AllHeld}
+use Rattle.node_store.specs.Placed.{Placed, none, at, link, occ, IsTerm, Held, also, AllHeld}
 use Rattle.node_store.specs.Work.{Work}
 use Rattle.node_store.specs.Grafting.{graft, Sub, here, under, later}
 use Rattle.node_store.proofs.Placing.{hit_self, no_hit, keep_set, keep_all_set, keep_rows_set}
