@@ -1,7 +1,9 @@
-// Sheets as text, and what is read of them: a table worked out by hand.
+// Sheets as text, and what is read of them: a table worked out by hand. Sides of rules, compared.
 #![tactic(auto)]
 
 pub mod cases;
+#[cfg(test)]
+mod compared;
 #[cfg(test)]
 mod held;
 #[cfg(test)]

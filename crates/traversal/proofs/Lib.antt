@@ -5,3 +5,4 @@ pub mod Counts
 pub mod Overlays
 pub mod Texts
 pub mod Layings
+pub mod Matches

@@ -21,17 +21,21 @@ refused (Err u) row mid before after os i x is h at e full =
     let all = ap length more in
     omega (arith, length-append row before)
 
-pub visited_operator : (r : Result (Unit {0}) Full) (v : Answers) (p f : ℕ) (before after : List ℕ) → v.symbol p ≡ Some (Operator f) → v.argument p 3 ≡ None → PutBefore (row_of v p) before after r → Visited v (p ∷ before) after (result_ok r)
-visited_operator (Ok u) v p f before after is few put = (
-  λ m s. closed v p f before m is few (subst (λ l. Many v l m) put s),
-  λ m s. let o = opened v p before m few s in (o.0, o.1, subst (λ l. Many v l o.0) (sym put) o.2),
-)
-visited_operator (Err e) v p f before after is few put = λ m s.
+-- where there is no room for the arguments, there are too many symbols
+pub no_room : (v : Answers) (p : ℕ) (before : List ℕ) → v.argument p 3 ≡ None → most_symbols < length (row_of v p) + length before → (m : ℕ) → Many v (p ∷ before) m → most_symbols < m
+no_room v p before few full m s =
     let o = opened v p before m few s in
     let less = length_le_symbols v (row_of v p ++ before) o.2.0 o.2.1 in
     let long = length-append (row_of v p) before in
     let sum = o.2.2 in
     omega arith
+
+pub visited_operator : (r : Result (Unit {0}) Full) (v : Answers) (p f : ℕ) (before after : List ℕ) → v.symbol p ≡ Some (Operator f) → v.argument p 3 ≡ None → PutBefore (row_of v p) before after r → Visited v (p ∷ before) after (result_ok r)
+visited_operator (Ok u) v p f before after is few put = (
+  λ m s. closed v p f before m is few (subst (λ l. Many v l m) put s),
+  λ m s. let o = opened v p before m few s in (o.0, o.1, subst (λ l. Many v l o.0) (sym put) o.2),
+)
+visited_operator (Err e) v p f before after is few put = no_room v p before few put
 
 pub visited_none : (v : Answers) (p : ℕ) (before : List ℕ) → ((t : Term) → Stands v p t → ⊥) → (m : ℕ) → Many v (p ∷ before) m → most_symbols < m
 visited_none v p before none m (nil, s, e) = absurd s

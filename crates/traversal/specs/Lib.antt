@@ -3,3 +3,4 @@ pub mod Rows
 pub mod Counting
 pub mod Bytes
 pub mod Pendings
+pub mod Comparing

@@ -1,6 +1,7 @@
-// Loops over the terms of any view, with a stack of places: counting symbols and writing text.
+// Loops over the terms of any view, with a stack of places: counting symbols, writing text and comparing two terms.
 #![tactic(auto)]
 
+pub mod compare;
 pub mod count;
 mod pending;
 pub mod row;
