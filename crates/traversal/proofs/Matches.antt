@@ -8,7 +8,7 @@ use Rattle.traversal.specs.Walks.{most_symbols}
 use Rattle.traversal.specs.Rows.{row_of, StandAll}
 use Rattle.traversal.specs.Pendings.{OfSize, SomeOfSize}
 use Rattle.traversal.specs.Comparing.{ComparedOfSize, SomeLeft, Opened}
-use Rattle.traversal.proofs.Rows.{top, under, both, symbols_under, symbols_both, stands_top, stands_under, from_to_all, join}
+use Rattle.traversal.proofs.Rows.{top, under, both, symbols_under, symbols_both, stands_top, stands_under, from_to_all, join, same_length}
 
 -- of a row of terms, the first symbol, and what is left of the row behind it
 abbrev first_symbol : Terms → Option Symbol
@@ -48,12 +48,6 @@ same_rows (cons t ts) nil m s l e = absurd (let z : ⊥ = omega arith in z)
 same_rows (cons t ts) (cons u us) m s l e =
     let parts = same_parts (under t) (under u) ts us (omega (arith, how_many_both (under t) ts, how_many_both (under u) us)) e in
     cc (over_top t, over_top u, parts.0, parts.1)
-
-as_many : (v : Answers) (ps : List ℕ) (ts : Terms) → StandAll v ps ts → length ps ≡ how_many ts
-as_many v [] nil s = refl
-as_many v [] (cons t ts) s = absurd s
-as_many v (p ∷ ps) nil s = absurd s
-as_many v (p ∷ ps) (cons t ts) s = ap suc (as_many v ps ts s.1)
 
 -- the first symbol is taken from the terms at the places of a stack
 record Opening (v : Answers) (after : List ℕ) (symbol : Option Symbol) (ts : Terms) : Type 0 where
@@ -126,8 +120,8 @@ one_more_same {v} {w} {ps = ps} {qs} {xs} {ys} o c is even m = record {
       let (l, left, r) = m.rest t u x y in
       let one = opening r.ones o r.ones_stand in
       let other = opening r.others c r.others_stand in
-      let many : how_many r.ones ≡ how_many r.others = omega (arith, m.even, as_many v ps r.ones r.ones_stand, as_many w qs r.others r.others_stand) in
-      let behind : how_many (behind_first r.ones) ≡ how_many (behind_first r.others) = omega (arith, even, as_many v xs _ one.stand, as_many w ys _ other.stand) in (
+      let many : how_many r.ones ≡ how_many r.others = omega (arith, m.even, same_length v ps r.ones r.ones_stand, same_length w qs r.others r.others_stand) in
+      let behind : how_many (behind_first r.ones) ≡ how_many (behind_first r.others) = omega (arith, even, same_length v xs _ one.stand, same_length w ys _ other.stand) in (
         symbols_in (behind_first r.ones),
         omega (arith, left, one.fewer, r.ones_left),
         record {
@@ -160,9 +154,9 @@ other_arities {v} {w} {xs = xs} {ys} o c differ m t u x y =
     let r = (m.rest t u x y).2 in
     different
     (λ e. differ (
-    as_many v xs _ (opening r.ones o r.ones_stand).stand
+    same_length v xs _ (opening r.ones o r.ones_stand).stand
     ∙ ap (λ l. how_many (behind_first l)) (r.same.0 e)
-    ∙ sym (as_many w ys _ (opening r.others c r.others_stand).stand)
+    ∙ sym (same_length w ys _ (opening r.others c r.others_stand).stand)
     ))
 
 -- no symbol is left

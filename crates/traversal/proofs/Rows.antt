@@ -2,7 +2,7 @@
 use Rattle.std.proofs.Common.{◌≡◌, ℕ, zero, suc, ◌+◌, ◌<◌, ◌≤◌, List, [], ◌∷◌, ◌++◌, length, Some, None, Option, sym, refl, ap, ◌∙◌, subst, add-zero, add-one, slice_index_or, drop, drop-cons, arith}
 use Rattle.terms.specs.declared.symbol.Symbol.{Symbol}
 use Rattle.terms.specs.declared.symbol.Symbol.TheVariants.{Variable, Instrument, Operator}
-use Rattle.terms.specs.Term.{Term, variable, instrument, apply, Terms, nil, cons, symbols, symbols_in}
+use Rattle.terms.specs.Term.{Term, variable, instrument, apply, Terms, nil, cons, how_many, symbols, symbols_in}
 use Rattle.terms.specs.View.{Answers, Stands, StandFrom}
 use Rattle.traversal.specs.Rows.{ahead, row_from, row_of, StandAll, Many}
 use Rattle.traversal.proofs.Slots.{filled}
@@ -80,6 +80,13 @@ split v (p ∷ ps) qs nil s = absurd s
 split v (p ∷ ps) qs (cons t ws) s =
     let r = split v ps qs ws s.1 in
     (cons t r.0, r.1, ap (cons t) r.2, (s.0, r.3), r.4)
+
+-- as many terms as places
+pub same_length : (v : Answers) (ps : List ℕ) (ts : Terms) → StandAll v ps ts → length ps ≡ how_many ts
+same_length v [] nil s = refl
+same_length v [] (cons t ts) s = absurd s
+same_length v (p ∷ ps) nil s = absurd s
+same_length v (p ∷ ps) (cons t ts) s = ap suc (same_length v ps ts s.1)
 
 -- a term has a symbol at least
 pub length_le_symbols : (v : Answers) (ps : List ℕ) (ts : Terms) → StandAll v ps ts → length ps ≤ symbols_in ts
