@@ -8,6 +8,7 @@ use node_store::store::Store;
 
 pub mod giving;
 pub mod loading;
+pub mod reducing;
 pub mod viewing;
 
 // Held terms and free nodes, in lent nodes.

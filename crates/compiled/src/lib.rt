@@ -1,0 +1,62 @@
+// Rules made ready for use on terms in nodes: what to look for, and what to make.
+#![tactic(auto)]
+
+use fixed_vec::FixedVec;
+use terms::symbol::Symbol;
+
+pub mod left;
+pub mod right;
+pub mod rules;
+
+// A symbol of a left side, behind its first one: what must stand there, if it is no variable; whether it has arguments, and whether
+// a sibling follows.
+#[derive(Clone, Copy)]
+pub struct Check {
+    pub symbol: Option<Symbol>,
+    pub has_first: bool,
+    pub has_next: bool,
+}
+
+// Where a node of a right side comes from: it is made; or it is what stands where the left side has the variable at this number,
+// moved to the first occurrence in reading order and copied to the others.
+#[derive(Clone, Copy)]
+pub enum Source {
+    Made(Symbol),
+    Moved(usize),
+    Copied(usize),
+}
+
+// A symbol of a right side, and whether it has arguments, and whether a sibling follows.
+#[derive(Clone, Copy)]
+pub struct Piece {
+    pub source: Source,
+    pub has_first: bool,
+    pub has_next: bool,
+}
+
+// One rule.
+#[derive(Clone, Copy)]
+pub struct Plan {
+    // whether the left side has arguments, and its symbols behind the first in reading order
+    pub has_first: bool,
+    pub checks: FixedVec<Check, 32>,
+    // the right side's first symbol, and the others in reading order
+    pub root: Piece,
+    pub pieces: FixedVec<Piece, 32>,
+    // the numbers of those among the others that are operators, arguments first
+    pub visits: FixedVec<usize, 32>,
+    // the numbers of the variables that the right side does not have
+    pub dropped: FixedVec<usize, 8>,
+    // how many symbols of the left side, and of the right one, are no variables
+    pub before: usize,
+    pub after: usize,
+    // the next rule whose left side has the same operator in front
+    pub next: Option<usize>,
+}
+
+// The rules of a sheet, and for each operator the first one whose left side has it in front.
+#[derive(Clone, Copy)]
+pub struct CompiledRules {
+    plans: FixedVec<Plan, 32>,
+    heads: [Option<usize>; 32],
+}

@@ -1,0 +1,5 @@
+// The search for next steps, and reducing.
+#![tactic(auto)]
+
+pub mod reduce;
+pub mod search;

@@ -1,0 +1,37 @@
+use crate::copying::{Scratch, survey};
+use crate::matching::Places;
+use compiled::{Plan, Source};
+use fixed_vec::FixedVec;
+use node_store::store::Store;
+
+// How many symbols the term at a place has.
+fn size(store: &Store, place: u16, scratch: &mut Scratch) -> usize {
+    survey(store, store.node(place).first, scratch);
+    scratch.order.len() + 1
+}
+
+// Whether there are the nodes for a step; the sizes of the parts that it drops.
+pub fn has_room(
+    store: &Store,
+    plan: &Plan,
+    places: &Places,
+    scratch: &mut Scratch,
+    sizes: &mut FixedVec<usize, 8>,
+) -> bool {
+    let mut before = plan.before;
+    sizes.clear();
+    for number in plan.dropped.iter() {
+        let place = places.get(*number).copied().unwrap_or(0);
+        let n = size(store, place, scratch);
+        let _ = sizes.push(n);
+        before = before.saturating_add(n);
+    }
+    let mut after = plan.after;
+    for piece in plan.pieces.iter() {
+        if let Source::Copied(number) = piece.source {
+            let place = places.get(number).copied().unwrap_or(0);
+            after = after.saturating_add(size(store, place, scratch));
+        }
+    }
+    after <= before.saturating_add(store.free())
+}
