@@ -45,8 +45,9 @@ pub struct Plan {
     pub pieces: FixedVec<Piece, 32>,
     // the numbers of those among the others that are operators, arguments first
     pub visits: FixedVec<usize, 32>,
-    // the numbers of the variables that the right side does not have
+    // the numbers at which the left side has variables that the right side does not have, and those of the copies
     pub dropped: FixedVec<usize, 8>,
+    pub copied: FixedVec<usize, 32>,
     // how many symbols of the left side, and of the right one, are no variables
     pub before: usize,
     pub after: usize,

@@ -50,13 +50,18 @@ fn plan(rule: &Rule) -> Plan {
             before = before.saturating_add(1);
         }
     }
+    let mut copied = FixedVec::new(0);
     let mut after: usize = 0;
     if let Source::Made(_) = root.source {
         after = 1;
     }
     for piece in pieces.iter() {
-        if let Source::Made(_) = piece.source {
-            after = after.saturating_add(1);
+        match piece.source {
+            Source::Made(_) => after = after.saturating_add(1),
+            Source::Copied(home) => {
+                let _ = copied.push(home);
+            }
+            Source::Moved(_) => {}
         }
     }
     Plan {
@@ -66,6 +71,7 @@ fn plan(rule: &Rule) -> Plan {
         pieces,
         visits,
         dropped,
+        copied,
         before,
         after,
         next: None,
@@ -82,6 +88,7 @@ impl CompiledRules {
             pieces: FixedVec::new(PIECE),
             visits: FixedVec::new(0),
             dropped: FixedVec::new(0),
+            copied: FixedVec::new(0),
             before: 0,
             after: 0,
             next: None,

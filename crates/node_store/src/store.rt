@@ -244,22 +244,4 @@ impl<'n> Store<'n> {
         self.put(low, Node { next, ..lower });
         self.freed = Some(low);
     }
-
-    // Frees one node alone.
-    pub fn free_node(&mut self, place: u16) {
-        let next = self.freed;
-        self.put(place, Node { next, ..Node::VACANT });
-        self.freed = Some(place);
-        self.free = self.free.saturating_add(1);
-    }
-
-    pub fn link(&mut self, place: u16, next: Option<u16>) {
-        let node = self.node(place);
-        self.put(place, Node { next, ..node });
-    }
-
-    pub fn put_under(&mut self, place: u16, symbol: Option<Symbol>, first: Option<u16>) {
-        let next = self.node(place).next;
-        self.put(place, Node { symbol, first, next });
-    }
 }

@@ -1,6 +1,6 @@
 use crate::copying::{Scratch, survey};
 use crate::matching::Places;
-use compiled::{Plan, Source};
+use compiled::Plan;
 use fixed_vec::FixedVec;
 use node_store::store::Store;
 
@@ -27,11 +27,9 @@ pub fn has_room(
         before = before.saturating_add(n);
     }
     let mut after = plan.after;
-    for piece in plan.pieces.iter() {
-        if let Source::Copied(number) = piece.source {
-            let place = places.get(number).copied().unwrap_or(0);
-            after = after.saturating_add(size(store, place, scratch));
-        }
+    for number in plan.copied.iter() {
+        let place = places.get(*number).copied().unwrap_or(0);
+        after = after.saturating_add(size(store, place, scratch));
     }
     after <= before.saturating_add(store.free())
 }

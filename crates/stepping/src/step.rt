@@ -36,9 +36,11 @@ fn take_apart(store: &mut Store, plan: &Plan, places: &Places) {
 }
 
 fn drop_parts(store: &mut Store, plan: &Plan, places: &Places, sizes: &FixedVec<usize, 8>) {
-    for (number, size) in plan.dropped.iter().zip(sizes.iter()) {
-        if let Some(place) = places.get(*number) {
-            store.give(*place, *size);
+    for k in 0..plan.dropped.len() {
+        let number = plan.dropped.get(k).copied().unwrap_or(0);
+        let size = sizes.get(k).copied().unwrap_or(0);
+        if let Some(place) = places.get(number) {
+            store.give(*place, size);
         }
     }
 }
@@ -89,8 +91,8 @@ fn finish(store: &mut Store, plan: &Plan, place: u16, places: &Places, row: Opti
         Source::Moved(number) | Source::Copied(number) => {
             if let Some(part) = places.get(number) {
                 let node = store.node(*part);
-                store.put_under(place, node.symbol, node.first);
                 store.free_node(*part);
+                store.put_under(place, node.symbol, node.first);
             }
         }
     }
