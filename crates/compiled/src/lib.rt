@@ -1,11 +1,11 @@
 // Rules made ready for use on terms in nodes: what to look for, and what to make.
 #![tactic(auto)]
 
+ghost use Rattle.std.specs.Prelude.{◌≡◌, length};
+
 use fixed_vec::FixedVec;
 use terms::symbol::Symbol;
 
-pub mod left;
-pub mod right;
 pub mod rules;
 
 // A symbol of a left side, behind its first one: what must stand there, if it is no variable; whether it has arguments, and whether
@@ -58,6 +58,7 @@ pub struct Plan {
 // The rules of a sheet, and for each operator the first one whose left side has it in front.
 #[derive(Clone, Copy)]
 pub struct CompiledRules {
-    plans: FixedVec<Plan, 32>,
-    heads: [Option<usize>; 32],
+    pub plans: FixedVec<Plan, 32>,
+    pub heads: [Option<usize>; 32],
+    ghost whole: { length heads ≡ 32 },
 }

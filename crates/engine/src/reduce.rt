@@ -1,10 +1,13 @@
+ghost use Rattle.node_store.specs.Memory.{memory};
+ghost use Rattle.engine.specs.Reducing.{Reduces};
+
 use crate::search::{Hit, Visit, search};
 use compiled::{CompiledRules, Plan, Source};
 use fixed_vec::FixedVec;
 use node_store::store::Store;
-use stepping::copying::Scratch;
-use stepping::matching::Places;
-use stepping::room::has_room;
+use matching::survey::Scratch;
+use matching::places::Places;
+use matching::room::has_room;
 use stepping::step::step;
 use terms::symbol::Symbol;
 use traversal::MOST;
@@ -23,7 +26,10 @@ pub struct Reduced {
     pub stop: Stop,
 }
 
-pub fn reduce(store: &mut Store, rules: &CompiledRules, place: u16, allowed: u32) -> Reduced {
+// Makes so many next steps of the term held at a place, as far as there are any and there is room.
+pub fn reduce(store: &mut Store, rules: &CompiledRules, place: u16, allowed: u32) -> Reduced
+    ensures { Reduces (memory store.old) rules.now place allowed (memory store.new) result }
+{
     let mut todo: FixedVec<Visit, MOST> = FixedVec::new(Visit::Fresh(0));
     let mut scratch = Scratch::new();
     let mut places: Places = FixedVec::new(0);

@@ -1,7 +1,7 @@
 use compiled::CompiledRules;
 use fixed_vec::FixedVec;
 use node_store::store::Store;
-use stepping::matching::{Places, matches};
+use matching::places::{Places, matches};
 use terms::symbol::Symbol;
 use traversal::MOST;
 

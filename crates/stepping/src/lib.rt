@@ -1,7 +1,5 @@
-// One step of a rule in place: whether a left side matches, whether there is room, and the step.
+// One step of a rule in place.
 #![tactic(auto)]
 
 pub mod copying;
-pub mod matching;
-pub mod room;
 pub mod step;

@@ -1,5 +1,10 @@
-use crate::copying::{Scratch, copy};
-use crate::matching::Places;
+ghost use Rattle.fixed_vec.specs.FixedVec.{items, content};
+ghost use Rattle.node_store.specs.Memory.{memory};
+ghost use Rattle.stepping.specs.Stepping.{Steps};
+
+use crate::copying::copy;
+use matching::survey::Scratch;
+use matching::places::Places;
 use compiled::{Piece, Plan, Source};
 use fixed_vec::FixedVec;
 use node_store::store::Store;
@@ -13,7 +18,9 @@ pub fn step(
     sizes: &FixedVec<usize, 8>,
     scratch: &mut Scratch,
     made: &mut Places,
-) -> Option<()> {
+) -> Option<()>
+    ensures { Steps (memory store.old) plan.now place (items places.now) (items sizes.now) (memory store.new) (content made.new) result }
+{
     let symbol = store.node(place).symbol;
     store.put_under(place, symbol, None);
     take_apart(store, plan, places);

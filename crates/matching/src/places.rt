@@ -1,3 +1,7 @@
+ghost use Rattle.fixed_vec.specs.FixedVec.{items};
+ghost use Rattle.node_store.specs.Memory.{memory};
+ghost use Rattle.matching.specs.Matching.{Matched};
+
 use compiled::Plan;
 use fixed_vec::FixedVec;
 use node_store::store::Store;
@@ -6,7 +10,9 @@ use node_store::store::Store;
 pub type Places = FixedVec<u16, 32>;
 
 // Whether the arguments that begin at a link are those of the left side under some substitution.
-pub fn matches(store: &Store, plan: &Plan, first: Option<u16>, places: &mut Places) -> bool {
+pub fn matches(store: &Store, plan: &Plan, first: Option<u16>, places: &mut Places) -> bool
+    ensures { Matched (memory store.now).nodes plan.now first (items places.new) result }
+{
     places.clear();
     if first.is_some() != plan.has_first {
         return false;

@@ -1,5 +1,9 @@
-use crate::copying::{Scratch, survey};
-use crate::matching::Places;
+ghost use Rattle.fixed_vec.specs.FixedVec.{items};
+ghost use Rattle.node_store.specs.Memory.{memory};
+ghost use Rattle.matching.specs.Room.{Roomed};
+
+use crate::survey::{Scratch, survey};
+use crate::places::Places;
 use compiled::Plan;
 use fixed_vec::FixedVec;
 use node_store::store::Store;
@@ -17,7 +21,9 @@ pub fn has_room(
     places: &Places,
     scratch: &mut Scratch,
     sizes: &mut FixedVec<usize, 8>,
-) -> bool {
+) -> bool
+    ensures { Roomed (memory store.now) plan.now (items places.now) (items sizes.new) result }
+{
     let mut before = plan.before;
     sizes.clear();
     for number in plan.dropped.iter() {

@@ -1,5 +1,5 @@
 use crate::left::Homes;
-use crate::{Piece, Source};
+use compiled::{Piece, Source};
 use fixed_vec::FixedVec;
 use sheet::side::Side;
 use terms::symbol::Symbol;

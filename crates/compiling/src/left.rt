@@ -1,4 +1,4 @@
-use crate::Check;
+use compiled::Check;
 use fixed_vec::FixedVec;
 use sheet::side::Side;
 use terms::symbol::Symbol;

@@ -1,0 +1,3 @@
+pub mod Peeling
+pub mod Matching
+pub mod Room

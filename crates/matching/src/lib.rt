@@ -1,0 +1,6 @@
+// Whether a left side matches in nodes, and whether there is room for the step.
+#![tactic(auto)]
+
+pub mod places;
+pub mod room;
+pub mod survey;
