@@ -1,3 +1,6 @@
 pub mod Peeling
+pub mod Fitting
 pub mod Matching
+pub mod Onward
+pub mod Surveying
 pub mod Room

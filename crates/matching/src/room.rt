@@ -2,8 +2,8 @@ ghost use Rattle.fixed_vec.specs.FixedVec.{items};
 ghost use Rattle.node_store.specs.Memory.{memory};
 ghost use Rattle.matching.specs.Room.{Roomed};
 
-use crate::survey::{Scratch, survey};
 use crate::places::Places;
+use crate::survey::{Scratch, survey};
 use compiled::Plan;
 use fixed_vec::FixedVec;
 use node_store::store::Store;

@@ -1,3 +1,8 @@
+ghost use Rattle.fixed_vec.specs.FixedVec.{items};
+ghost use Rattle.node_store.specs.Memory.{memory};
+ghost use Rattle.matching.specs.Surveying.{Surveyed};
+
+use crate::onward::onward;
 use fixed_vec::FixedVec;
 use node_store::store::Store;
 use traversal::MOST;
@@ -19,23 +24,18 @@ impl Scratch {
 }
 
 // The places of a row's nodes in reading order.
-pub fn survey(store: &Store, first: Option<u16>, scratch: &mut Scratch) {
+pub fn survey(store: &Store, first: Option<u16>, scratch: &mut Scratch)
+    ensures { Surveyed (memory store.now).nodes first (items scratch.new.order) (items scratch.new.stack) }
+{
     scratch.order.clear();
     scratch.stack.clear();
-    if let Some(place) = first {
-        let _ = scratch.stack.push(place);
-    }
+    let mut current = first;
     for _n in 0..MOST {
-        let Some(place) = scratch.stack.pop() else {
+        let Some(place) = current else {
             return;
         };
         let _ = scratch.order.push(place);
         let node = store.node(place);
-        if let Some(next) = node.next {
-            let _ = scratch.stack.push(next);
-        }
-        if let Some(first) = node.first {
-            let _ = scratch.stack.push(first);
-        }
+        current = onward(node.first, node.next, &mut scratch.stack);
     }
 }
