@@ -1,1 +1,3 @@
 pub mod Peelings
+pub mod Onwards
+pub mod Surveys

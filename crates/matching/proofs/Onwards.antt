@@ -1,0 +1,41 @@
+-- Rows that are still to be gone through, and where they begin.
+use Rattle.std.proofs.Common.{◌≡◌, ℕ, suc, ◌+◌, ◌<◌, ◌≤◌, List, [], ◌∷◌, length, get_or, Some, None, Option, refl, sym, ap, ◌∙◌, subst, arith}
+use Rattle.std.specs.List.{cons_option}
+use Rattle.terms.specs.declared.node.Node.{Node}
+use Rattle.terms.specs.declared.symbol.Symbol.{Symbol}
+use Rattle.terms.specs.Nodes.{vacant}
+use Rattle.node_store.specs.Placed.{Placed, none, at, link, Holds, size}
+use Rattle.node_store.specs.Work.{HoldAll, size_all}
+use Rattle.matching.specs.Onward.{Ahead, Goes}
+
+-- where the rows begin that have a node
+abbrev pub links : List Placed → List ℕ
+links [] = []
+links (q ∷ qs) = cons_option (link q) (links qs)
+
+pub links_few : (qs : List Placed) → length (links qs) ≤ size_all qs
+links_few [] = omega arith
+links_few (none ∷ qs) = let h = links_few qs in omega arith
+links_few (at i s ks us ∷ qs) = let h = links_few qs in omega arith
+
+-- the first place to come, and there is room for one more to be put off
+pub ahead_some : (p : ℕ) (current : Option ℕ) (later ps : List ℕ) → current ≡ Some p → Ahead current later ps → ps ≡ p ∷ later
+ahead_some p (Some r) later ps e a = let z : r ≡ p = cc in a ∙ ap (λ n. n ∷ later) z
+ahead_some p None later ps e a = let z : ◌≡◌ {A = ℕ} 0 1 = cc in absurd (let y : ⊥ = omega arith in y)
+
+pub ahead_none : (current : Option ℕ) (later ps : List ℕ) → current ≡ None → Ahead current later ps → (later ≡ []) × (ps ≡ [])
+ahead_none None later ps e a = a
+ahead_none (Some r) later ps e a = let z : ◌≡◌ {A = ℕ} 0 1 = cc in absurd (let y : ⊥ = omega arith in y)
+
+-- where no place is to come, none was put off
+pub ahead_end : (current : Option ℕ) (later ps : List ℕ) → ps ≡ [] → Ahead current later ps → later ≡ []
+ahead_end None later ps e a = a.0
+ahead_end (Some r) later ps e a = let z : ◌≡◌ {A = ℕ} 0 1 = cc in absurd (let y : ⊥ = omega arith in y)
+
+-- at the start only the first row is to come
+pub ahead_first : (q : Placed) (first : Option ℕ) (later : List ℕ) → link q ≡ first → later ≡ [] → Ahead first later (links (q ∷ []))
+ahead_first q first later e n = subst (λ l. Ahead first l (links (q ∷ []))) (sym n) (subst (λ f. Ahead f [] (links (q ∷ []))) e (go q))
+  where
+    go : (q : Placed) → Ahead (link q) [] (links (q ∷ []))
+    go none = (refl, refl)
+    go (at i s ks us) = refl
