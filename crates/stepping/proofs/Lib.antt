@@ -1,0 +1,3 @@
+pub mod Parting
+pub mod Keeping
+pub mod Dropping
