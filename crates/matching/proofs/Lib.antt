@@ -1,3 +1,7 @@
 pub mod Peelings
 pub mod Onwards
 pub mod Surveys
+pub mod Joinings
+pub mod Fittings
+pub mod Pairings
+pub mod Matches

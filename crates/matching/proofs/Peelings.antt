@@ -1,5 +1,6 @@
 -- A pattern that is peeled off: its parts beside their places, the rows of its variables, and how many nodes these have.
 use Rattle.std.proofs.Common.{◌≡◌, ℕ, zero, suc, ◌+◌, ◌<◌, ◌==◌, cond, Bool, true, false, ◌||◌, List, [], ◌∷◌, ◌++◌, append_assoc, append-nil, length, get_or, Option, refl, sym, ap, ◌∙◌, subst, arith}
+use Rattle.std.proofs.lemmas.Bool.{false≢true}
 use Rattle.terms.specs.declared.symbol.Symbol.{Symbol}
 use Rattle.terms.specs.Term.{Term, variable, instrument, apply, Terms, nil, cons}
 use Rattle.rewriting.specs.Bindings.{Bindings, bound}
@@ -76,7 +77,7 @@ kept_behind {w = w} {ts = ts} {ps = ps} {kept = kept} {m = m} {x = x} t q e k =
     }
 
 pub kept_at : {w : Placed} {ts : List Term} {ps : List ℕ} {kept : List Placed} {m : Bindings} → Beside w ts ps kept m → (x : ℕ) → has_variable x ts ≡ true → KeptAt w ts ps kept m x
-kept_at nothing x h = let z : ◌≡◌ {A = ℕ} 0 1 = cc in absurd (let y : ⊥ = omega arith in y)
+kept_at nothing x h = absurd (false≢true cc)
 kept_at (leaf_part {n = n} {q = q} r) x h = kept_behind (instrument n) q refl (kept_at r x h)
 kept_at (node_part {f = f} {q = q} {us = us} r) x h = kept_behind (apply f us) q refl (kept_at r x h)
 kept_at {w = w} (bound_part {x = y} {q = q} {s = s} {ks = ks} {t = t} {ts = ts} {ps = ps} {kept = kept} {m = m} i a r) x h = go (kept_at r x) (x == y) refl h

@@ -1,5 +1,6 @@
 -- A survey under way.
 use Rattle.std.proofs.Common.{◌≡◌, ℕ, ◌+◌, ◌<◌, ◌≤◌, List, [], ◌∷◌, ◌++◌, append_assoc, append-nil, length, reverse, get_or, Some, None, Option, Ok, Err, Result, OnOk, OnErr, refl, sym, ap, ◌∙◌, subst, arith}
+use Rattle.std.proofs.lemmas.Bool.{false≢true}
 use Rattle.std.proofs.lemmas.List.{length_push, length-reverse}
 use Rattle.std.specs.List.{cons_option}
 use Rattle.fixed_vec.specs.declared.Full.{Full}
@@ -10,7 +11,7 @@ use Rattle.node_store.specs.Placed.{Placed, none, at, link, Holds, size}
 use Rattle.node_store.specs.Work.{HoldAll, size_all}
 use Rattle.matching.specs.Onward.{Ahead, Goes}
 use Rattle.matching.specs.Surveying.{in_order}
-use Rattle.matching.proofs.Onwards.{links, links_few, ahead_some, ahead_none, ahead_end, ahead_first}
+use Rattle.matching.proofs.Onwards.{links, links_few, ahead_some, ahead_none, ahead_end, ahead_first, listed}
 
 -- the places of the rows' nodes, row by row
 abbrev pub all_in_order : List Placed → List ℕ
@@ -49,7 +50,7 @@ record Opened (ns : List Node) (p : ℕ) (rows : List Placed) (ps : List ℕ) : 
   sum : size_all rows ≡ 1 + size_all (below ∷ beside ∷ others)
 
 opened : (ns : List Node) (p : ℕ) (rows : List Placed) (ps : List ℕ) → HoldAll ns rows → links rows ≡ p ∷ ps → Opened ns p rows ps
-opened ns p [] ps h e = let z : ◌≡◌ {A = ℕ} 0 1 = cc in absurd (let y : ⊥ = omega arith in y)
+opened ns p [] ps h e = absurd (false≢true cc)
 opened ns p (none ∷ rows) ps h e =
     let o = opened ns p rows ps h.1 e in
     record { symbol = o.symbol; below = o.below; beside = o.beside; others = o.others; node = o.node; holds = o.holds; links = o.links; places = o.places; sum = let z = o.sum in omega arith }
@@ -66,11 +67,6 @@ opened ns p (at i s ks us ∷ rows) ps h e =
       places = ap (λ n. n ∷ (in_order ks ++ in_order us ++ all_in_order rows)) z ∙ ap (λ l. p ∷ l) (append_assoc (in_order ks) (in_order us) (all_in_order rows));
       sum = omega arith;
     }
-
--- a place that is listed; or there was no room for it
-listed : (n : ℕ) (order order′ : List ℕ) (p : ℕ) (r : Result (Unit {0}) Full) → length order < n → OnOk r (order′ ≡ order ++ p ∷ []) → OnErr r (n ≤ length order) → order′ ≡ order ++ p ∷ []
-listed n order order′ p (Ok u) h a b = a
-listed n order order′ p (Err x) h a b = absurd (let y : ⊥ = omega arith in y)
 
 module _ (ns : List Node) (q : Placed) (n k p : ℕ) (current current′ : Option ℕ) (later later′ order order′ : List ℕ) (r : Result (Unit {0}) Full) (x : Node) where
   pub survey_step : size q ≤ n → current ≡ Some p → x ≡ get_or ns p vacant → OnOk r (order′ ≡ order ++ p ∷ []) → OnErr r (n ≤ length order) → Goes n x.first x.next later later′ current′
@@ -98,7 +94,7 @@ module _ (ns : List Node) (q : Placed) (n k p : ℕ) (current current′ : Optio
 none_left : (rows : List Placed) → links rows ≡ [] → all_in_order rows ≡ []
 none_left [] e = refl
 none_left (none ∷ rows) e = none_left rows e
-none_left (at i s ks us ∷ rows) e = let z : ◌≡◌ {A = ℕ} 0 1 = cc in absurd (let y : ⊥ = omega arith in y)
+none_left (at i s ks us ∷ rows) e = absurd (false≢true cc)
 
 empty : {A : Type 0} (l : List A) → length l ≤ 0 → l ≡ []
 empty [] h = refl
