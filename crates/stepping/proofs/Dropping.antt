@@ -14,9 +14,9 @@ use Rattle.node_store.proofs.Rows.{to_front, from_front, row_given}
 use Rattle.compiled.specs.Symbols.{has_variable}
 use Rattle.compiled.specs.Plans.{dropped_from}
 use Rattle.matching.specs.Peeling.{size_at}
+use Rattle.matching.proofs.Peelings.{Beside, nothing, bound_part, leaf_part, node_part}
 use Rattle.stepping.specs.Keeping.{rows_for}
 use Rattle.stepping.specs.Parting.{without}
-use Rattle.stepping.proofs.Keeping.{Keeps, nothing, filled, bare, over}
 use Rattle.stepping.proofs.Parting.{Loose}
 
 -- the size that is found at a place
@@ -31,13 +31,13 @@ found_size (at j t js us ∷ xs) ys i s ks o =
     once [] ys i s ks = let h = hit_self i in omega arith
     once (x ∷ xs) ys i s ks = let h = once xs ys i s ks in omega arith
 
-module _ (h : Held) (right : List Term) (places : List ℕ) (all : List Placed) (one : (j : ℕ) → occ_all j all ≤ 1) where
-  pub rows_given : (l : List Term) (ps : List ℕ) (kept : List Placed) (v : Bindings) (k : ℕ) (pre : List ℕ) (xs others : List Placed) (g : Placed) (m : Memory) → Keeps l ps kept v → k ≡ length pre → places ≡ pre ++ ps → all ≡ xs ++ kept → length m.nodes ≤ 65536 → Work m h (kept ++ others) g
+module _ (h : Held) (w : Placed) (right : List Term) (places : List ℕ) (all : List Placed) (one : (j : ℕ) → occ_all j all ≤ 1) where
+  pub rows_given : (l : List Term) (ps : List ℕ) (kept : List Placed) (v : Bindings) (k : ℕ) (pre : List ℕ) (xs others : List Placed) (g : Placed) (m : Memory) → Beside w l ps kept v → k ≡ length pre → places ≡ pre ++ ps → all ≡ xs ++ kept → length m.nodes ≤ 65536 → Work m h (kept ++ others) g
       → Loose m h (rows_for (λ x. has_variable x right) v kept ++ others) (without m (dropped_from k l right) (map (λ k. size_at all (get_or places k 0)) (dropped_from k l right)) places)
-  rows_given l ps kept v k pre xs others g m nothing n e a few w = record { gone = g; work = w; long = refl }
-  rows_given l ps kept v k pre xs others g m (bare {n = i} {q = q} {l = l′} {ps = ps′} r) n e a few w = rows_given l′ ps′ kept v (suc k) (pre ++ q ∷ []) xs others g m r (omega (arith, length-append pre (q ∷ []))) (e ∙ sym (append_assoc pre (q ∷ []) ps′)) a few w
-  rows_given l ps kept v k pre xs others g m (over {q = q} {l = l′} {ps = ps′} r) n e a few w = rows_given l′ ps′ kept v (suc k) (pre ++ q ∷ []) xs others g m r (omega (arith, length-append pre (q ∷ []))) (e ∙ sym (append_assoc pre (q ∷ []) ps′)) a few w
-  rows_given l ps kept v k pre xs others g m (filled {x = x} {q = q} {s = s} {ks = ks} {t = t} {l = l′} {ps = ps′} {kept = kept′} {v = v′} i r) n e a few w =
+  rows_given l ps kept v k pre xs others g m nothing n e a few z = record { gone = g; work = z; long = refl }
+  rows_given l ps kept v k pre xs others g m (leaf_part {n = i} {q = q} {ts = l′} {ps = ps′} r) n e a few z = rows_given l′ ps′ kept v (suc k) (pre ++ q ∷ []) xs others g m r (omega (arith, length-append pre (q ∷ []))) (e ∙ sym (append_assoc pre (q ∷ []) ps′)) a few z
+  rows_given l ps kept v k pre xs others g m (node_part {q = q} {ts = l′} {ps = ps′} r) n e a few z = rows_given l′ ps′ kept v (suc k) (pre ++ q ∷ []) xs others g m r (omega (arith, length-append pre (q ∷ []))) (e ∙ sym (append_assoc pre (q ∷ []) ps′)) a few z
+  rows_given l ps kept v k pre xs others g m (bound_part {x = x} {q = q} {s = s} {ks = ks} {t = t} {ts = l′} {ps = ps′} {kept = kept′} {m = v′} b i r) n e a few z =
       go (has_variable x right) (λ o f y. rows_given l′ ps′ kept′ v′ (suc k) (pre ++ q ∷ []) (xs ++ at q s ks none ∷ []) o f y r longer placed kept_all)
     where
       row : Placed
@@ -69,10 +69,10 @@ module _ (h : Held) (right : List Term) (places : List ℕ) (all : List Placed) 
 
       go : (b : Bool) → ((o : List Placed) (f : Placed) (y : Memory) → length y.nodes ≤ 65536 → Work y h (kept′ ++ o) f → Loose y h (rest ++ o) (without y numbers (map sizes numbers) places)) → Loose m h (cond b (row ∷ rest) rest ++ others) (without m (cond b numbers (k ∷ numbers)) (map sizes (cond b numbers (k ∷ numbers))) places)
       go true rec =
-          let z = rec (row ∷ others) g m few (from_front m h kept′ others row g w) in
-          record { gone = z.gone; work = to_front (without m numbers (map sizes numbers) places) h rest others row z.gone z.work; long = z.long }
+          let y = rec (row ∷ others) g m few (from_front m h kept′ others row g z) in
+          record { gone = y.gone; work = to_front (without m numbers (map sizes numbers) places) h rest others row y.gone y.work; long = y.long }
       go false rec =
           let y : length (given m (get_or places k 0) (sizes k)).nodes ≡ length m.nodes = length-set m.nodes (get_or places k 0) _ in
-          let u = subst (λ p. Work (given m p (sizes k)) h (kept′ ++ others) (at q None ks g)) (sym stands) (row_given m h q s ks (kept′ ++ others) g (sizes k) sized few w) in
-          let z = rec others (at q None ks g) (given m (get_or places k 0) (sizes k)) (omega arith) u in
-          record { gone = z.gone; work = z.work; long = z.long ∙ y }
+          let u = subst (λ p. Work (given m p (sizes k)) h (kept′ ++ others) (at q None ks g)) (sym stands) (row_given m h q s ks (kept′ ++ others) g (sizes k) sized few z) in
+          let r = rec others (at q None ks g) (given m (get_or places k 0) (sizes k)) (omega arith) u in
+          record { gone = r.gone; work = r.work; long = r.long ∙ y }

@@ -12,33 +12,12 @@ use Rattle.node_store.proofs.Placing.{hit_self}
 use Rattle.node_store.proofs.Standing.{term_size}
 use Rattle.compiled.specs.Symbols.{parts_of, parts_under, is_variable, has_variable, home}
 use Rattle.matching.specs.Peeling.{Peels, done, end, bind, leaf, under}
+use Rattle.matching.proofs.Peelings.{Beside, nothing, bound_part, leaf_part, node_part}
 use Rattle.stepping.specs.Keeping.{rows_for}
+use Rattle.stepping.proofs.Occurring.{right_or}
+use Rattle.stepping.proofs.Reading.{occurrences_all}
 
--- the parts of rows
-abbrev pub parts_all : List Terms → List Term
-parts_all [] = []
-parts_all (ts ∷ pss) = parts_of ts ++ parts_all pss
-
--- parts with their places, and for each variable the row of what is bound to it alone
-pub data Keeps : List Term → List ℕ → List Placed → Bindings → Type 0 where
-  nothing : Keeps [] [] [] []
-  filled : {x q : ℕ} {s : Option Symbol} {ks : Placed} {t : Term} {l : List Term} {ps : List ℕ} {kept : List Placed} {v : Bindings} → IsTerm s ks t → Keeps l ps kept v → Keeps (variable x ∷ l) (q ∷ ps) (at q s ks none ∷ kept) ((x, t) ∷ v)
-  bare : {n q : ℕ} {l : List Term} {ps : List ℕ} {kept : List Placed} {v : Bindings} → Keeps l ps kept v → Keeps (instrument n ∷ l) (q ∷ ps) kept v
-  over : {f q : ℕ} {fs : Terms} {l : List Term} {ps : List ℕ} {kept : List Placed} {v : Bindings} → Keeps l ps kept v → Keeps (apply f fs ∷ l) (q ∷ ps) kept v
-
-pub peels_keeps : (pss : List Terms) (qs : List Placed) (ps : List ℕ) (kept : List Placed) (v : Bindings) → Peels pss qs ps kept v → Keeps (parts_all pss) ps kept v
-peels_keeps pss qs ps kept v done = nothing
-peels_keeps pss qs ps kept v (end {pss = pss′} {qs = qs′} p) = peels_keeps pss′ qs′ ps kept v p
-peels_keeps pss qs ps kept v (bind {us = us} {ts = ts} {pss = pss′} {qs = qs′} {ps = ps′} {kept = kept′} {m = v′} i p) = filled i (peels_keeps (ts ∷ pss′) (us ∷ qs′) ps′ kept′ v′ p)
-peels_keeps pss qs ps kept v (leaf {us = us} {ts = ts} {pss = pss′} {qs = qs′} {ps = ps′} p) = bare (peels_keeps (ts ∷ pss′) (us ∷ qs′) ps′ kept v p)
-peels_keeps pss qs ps kept v (under {f = f} {ks = ks} {us = us} {fs = fs} {ts = ts} {pss = pss′} {qs = qs′} {ps = ps′} p) =
-    over (subst (λ l. Keeps l ps′ kept v) (sym (append_assoc (parts_of fs) (parts_of ts) (parts_all pss′))) (peels_keeps (fs ∷ ts ∷ pss′) (ks ∷ us ∷ qs′) ps′ kept v p))
-
--- how often a variable stands in rows
-abbrev pub occurrences_all : ℕ → List Terms → ℕ
-occurrences_all x [] = 0
-occurrences_all x (ts ∷ pss) = occurrences_in x ts + occurrences_all x pss
-
+-- a variable is bound as often as it stands in the pattern
 pub peels_binds : (x : ℕ) (pss : List Terms) (qs : List Placed) (ps : List ℕ) (kept : List Placed) (v : Bindings) → Peels pss qs ps kept v → binds x v ≡ occurrences_all x pss
 peels_binds x pss qs ps kept v done = refl
 peels_binds x pss qs ps kept v (end {pss = pss′} {qs = qs′} p) = let e = peels_binds x pss′ qs′ ps kept v p in omega arith
@@ -63,16 +42,16 @@ pub record Found (x : ℕ) (l : List Term) (ps : List ℕ) (kept : List Placed) 
   pub many : length before ≡ length earlier
   pub first : binds x earlier ≡ 0
 
-module _ (x : ℕ) where
+module _ (x : ℕ) (w : Placed) where
   -- the row stands behind that of another part
   behind_bare : (p : Term) (q : ℕ) (l : List Term) (ps : List ℕ) (kept : List Placed) (v : Bindings) → home x (p ∷ l) ≡ suc (home x l) → Found x l ps kept v → Found x (p ∷ l) (q ∷ ps) kept v
   behind_bare p q l ps kept v e f = record { place = f.place; symbol = f.symbol; args = f.args; term = f.term; is = f.is; stands = ap (λ k. get_or (q ∷ ps) k 0) e ∙ f.stands; before = f.before; behind = f.behind; rows = f.rows; earlier = f.earlier; later = f.later; names = f.names; many = f.many; first = f.first }
 
-  pub find_row : (l : List Term) (ps : List ℕ) (kept : List Placed) (v : Bindings) → Keeps l ps kept v → has_variable x l ≡ true → Found x l ps kept v
+  pub find_row : (l : List Term) (ps : List ℕ) (kept : List Placed) (v : Bindings) → Beside w l ps kept v → has_variable x l ≡ true → Found x l ps kept v
   find_row l ps kept v nothing e = absurd (let z : ⊥ = cc in z)
-  find_row l ps kept v (bare {n = n} {q = q} {l = l′} {ps = ps′} k) e = behind_bare (instrument n) q l′ ps′ kept v refl (find_row l′ ps′ kept v k e)
-  find_row l ps kept v (over {f = f} {q = q} {fs = fs} {l = l′} {ps = ps′} k) e = behind_bare (apply f fs) q l′ ps′ kept v refl (find_row l′ ps′ kept v k e)
-  find_row l ps kept v (filled {x = y} {q = q} {s = s} {ks = ks} {t = t} {l = l′} {ps = ps′} {kept = kept′} {v = v′} i k) e = go (x == y) refl (find_row l′ ps′ kept′ v′ k)
+  find_row l ps kept v (leaf_part {n = n} {q = q} {ts = l′} {ps = ps′} k) e = behind_bare (instrument n) q l′ ps′ kept v refl (find_row l′ ps′ kept v k e)
+  find_row l ps kept v (node_part {f = f} {q = q} {us = fs} {ts = l′} {ps = ps′} k) e = behind_bare (apply f fs) q l′ ps′ kept v refl (find_row l′ ps′ kept v k e)
+  find_row l ps kept v (bound_part {x = y} {q = q} {s = s} {ks = ks} {t = t} {ts = l′} {ps = ps′} {kept = kept′} {m = v′} u i k) e = go (x == y) refl (find_row l′ ps′ kept′ v′ k)
     where
       go : (b : Bool) → (x == y) ≡ b → (has_variable x l′ ≡ true → Found x l′ ps′ kept′ v′) → Found x (variable y ∷ l′) (q ∷ ps′) (at q s ks none ∷ kept′) ((y, t) ∷ v′)
       go true h rec = record {
@@ -167,52 +146,6 @@ row_among x l ps kept v w f g one asked not same =
       without = (λ i. rows_for g (w.names i) (w.rows i)) ∙ rows_for-append g w.earlier ((x, w.term) ∷ w.later) w.before (q ∷ w.behind) w.many ∙ ap (λ c. rows_for g w.earlier w.before ++ cond c (q ∷ rows_for g w.later w.behind) (rows_for g w.later w.behind)) not ∙ (λ i. sym e i ++ sym h i);
     }
 
-or_left : (a b c : Bool) → (a || b) ≡ true → (a || (b || c)) ≡ true
-or_left true b c e = refl
-or_left false true c e = refl
-or_left false false c e = absurd (let z : ⊥ = cc in z)
-
--- a variable among parts of terms
-has_append : (x : ℕ) (l r : List Term) → has_variable x (l ++ r) ≡ (has_variable x l || has_variable x r)
-has_append x [] r = refl
-has_append x (t ∷ l) r = go (is_variable x t) (has_append x l r)
-  where
-    go : (b : Bool) → has_variable x (l ++ r) ≡ (has_variable x l || has_variable x r) → (b || has_variable x (l ++ r)) ≡ ((b || has_variable x l) || has_variable x r)
-    go true e = refl
-    go false e = e
-
--- another part at the end
-pub has_snoc : (x : ℕ) (l : List Term) (t : Term) → has_variable x (l ++ t ∷ []) ≡ (is_variable x t || has_variable x l)
-has_snoc x l t = has_append x l (t ∷ []) ∙ go (has_variable x l) (is_variable x t)
-  where
-    go : (a b : Bool) → (a || (b || false)) ≡ (b || a)
-    go true true = refl
-    go true false = refl
-    go false true = refl
-    go false false = refl
-
-right_or : (a : Bool) → (a || true) ≡ true
-right_or true = refl
-right_or false = refl
-
--- a variable that occurs is among the parts
-mutual
-  pub occurs_in : (x : ℕ) (ts : Terms) → 1 ≤ occurrences_in x ts → has_variable x (parts_of ts) ≡ true
-  occurs_in x nil o = absurd (let z : ⊥ = omega arith in z)
-  occurs_in x (cons t us) o = ⊎_elim
-      (λ (h : 0 < occurrences x t). ap (λ b. is_variable x t || b) (has_append x (parts_under t) (parts_of us)) ∙ or_left (is_variable x t) (has_variable x (parts_under t)) (has_variable x (parts_of us)) (occurs x t h))
-      (λ (h : occurrences x t ≤ 0). ap (λ b. is_variable x t || b) (has_append x (parts_under t) (parts_of us) ∙ ap (λ c. has_variable x (parts_under t) || c) (occurs_in x us (omega arith)) ∙ right_or (has_variable x (parts_under t))) ∙ right_or (is_variable x t))
-      (cases_lt 0 (occurrences x t))
-
-  occurs : (x : ℕ) (t : Term) → 1 ≤ occurrences x t → (is_variable x t || has_variable x (parts_under t)) ≡ true
-  occurs x (variable y) o = go (x == y) o
-    where
-      go : (b : Bool) → 1 ≤ cond b 1 0 → (b || false) ≡ true
-      go true o = refl
-      go false o = absurd (let z : ⊥ = omega arith in z)
-  occurs x (instrument n) o = absurd (let z : ⊥ = omega arith in z)
-  occurs x (apply f ts) o = occurs_in x ts o
-
 -- what terms need under bindings, each part counted by its first symbol, and a variable by all that it is bound to
 abbrev pub weight : Bindings → Term → ℕ
 weight v (variable x) = symbols (bound v x)
@@ -223,7 +156,7 @@ abbrev pub weights : Bindings → List Term → ℕ
 weights v [] = 0
 weights v (t ∷ l) = weight v t + weights v l
 
-weights-append : (v : Bindings) (l r : List Term) → weights v (l ++ r) ≡ weights v l + weights v r
+pub weights-append : (v : Bindings) (l r : List Term) → weights v (l ++ r) ≡ weights v l + weights v r
 weights-append v [] r = omega arith
 weights-append v (t ∷ l) r = let e = weights-append v l r in omega arith
 
@@ -259,25 +192,25 @@ asked_again x f e y = go (y == x) refl
 pub asked_more : (x : ℕ) (f : ℕ → Bool) (y : ℕ) → (x == y) ≡ false → ((y == x) || f y) ≡ f y
 asked_more x f y e = ap (λ b. b || f y) (equal_back x y e)
 
-size_middle : (xs ys : List Placed) (q : Placed) → size_all (xs ++ q ∷ ys) ≡ size q + size_all (xs ++ ys)
+pub size_middle : (xs ys : List Placed) (q : Placed) → size_all (xs ++ q ∷ ys) ≡ size q + size_all (xs ++ ys)
 size_middle [] ys q = refl
 size_middle (x ∷ xs) ys q = let e = size_middle xs ys q in omega arith
 
 -- the rows that some parts ask for have at most as many nodes as the parts need
-module _ (v : Bindings) (kept : List Placed) (l : List Term) (ps : List ℕ) (k : Keeps l ps kept v) (one : (x : ℕ) → binds x v ≤ 1) where
+module _ (v : Bindings) (kept : List Placed) (l : List Term) (ps : List ℕ) (w : Placed) (k : Beside w l ps kept v) (one : (x : ℕ) → binds x v ≤ 1) where
   more_rows : (x : ℕ) (f : ℕ → Bool) → has_variable x l ≡ true → size_all (rows_for (λ y. (y == x) || f y) v kept) ≤ symbols (bound v x) + size_all (rows_for f v kept)
   more_rows x f e = go (f x) refl
     where
       go : (b : Bool) → f x ≡ b → size_all (rows_for (λ y. (y == x) || f y) v kept) ≤ symbols (bound v x) + size_all (rows_for f v kept)
       go true h = let z : size_all (rows_for (λ y. (y == x) || f y) v kept) ≡ size_all (rows_for f v kept) = λ i. size_all (rows_for (λ y. asked_again x f h y i) v kept) in omega arith
       go false h =
-          let w = find_row x l ps kept v k e in
-          let r = row_among x l ps kept v w (λ y. (y == x) || f y) f (one x) (ap (λ b. b || f x) (eq-eqb x x refl)) h (asked_more x f) in
+          let o = find_row x w l ps kept v k e in
+          let r = row_among x l ps kept v o (λ y. (y == x) || f y) f (one x) (ap (λ b. b || f x) (eq-eqb x x refl)) h (asked_more x f) in
           let a = ap size_all r.with in
           let b = ap size_all r.without in
-          let c = size_middle r.front r.back (at w.place w.symbol w.args none) in
-          let d = ap symbols (found_bound x l ps kept v w) in
-          let s = term_size w.symbol w.args w.term w.is in
+          let c = size_middle r.front r.back (at o.place o.symbol o.args none) in
+          let d = ap symbols (found_bound x l ps kept v o) in
+          let s = term_size o.symbol o.args o.term o.is in
           omega arith
 
   pub rows_weigh : (bs : List Term) → ((x : ℕ) → has_variable x bs ≡ true → has_variable x l ≡ true) → size_all (rows_for (λ y. has_variable y bs) v kept) ≤ weights v bs

@@ -1,4 +1,6 @@
 pub mod Growing
 pub mod Keeping
 pub mod Parting
+pub mod Copying
+pub mod Building
 pub mod Stepping
