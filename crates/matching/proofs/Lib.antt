@@ -5,3 +5,4 @@ pub mod Joinings
 pub mod Fittings
 pub mod Pairings
 pub mod Matches
+pub mod Sizings
