@@ -1,12 +1,12 @@
 -- Where a term of a pattern matches, its symbol fits; and where its symbol fits, what is left to match.
-use Rattle.std.proofs.Common.{◌≡◌, ℕ, ◌==◌, cond, Bool, true, false, List, [], ◌∷◌, get_or, Some, None, Option, is_some, refl, sym, ap, ◌∙◌, subst, arith, eq-eqb}
-use Rattle.std.proofs.Math.Option.{none, some}
+use Rattle.std.proofs.Common.{◌≡◌, ℕ, List, [], get_or, Some, Option, is_some, refl, sym, ap, ◌∙◌, subst}
+use Rattle.std.proofs.Math.Option.{some}
 use Rattle.terms.specs.declared.node.Node.{Node}
 use Rattle.terms.specs.declared.symbol.Symbol.{Symbol}
-use Rattle.terms.specs.declared.symbol.Symbol.TheVariants.{Variable, Instrument, Operator}
+use Rattle.terms.specs.declared.symbol.Symbol.TheVariants.{Instrument, Operator}
 use Rattle.terms.specs.Nodes.{vacant}
 use Rattle.terms.specs.Term.{Term, variable, instrument, apply, Terms, nil, cons}
-use Rattle.rewriting.specs.Bindings.{Bindings, joined}
+use Rattle.rewriting.specs.Bindings.{Bindings}
 use Rattle.rewriting.specs.Next.{matching, matching_all}
 use Rattle.rewriting.proofs.Filling.{none_some}
 use Rattle.rewriting.proofs.Matching.{joined_some, tested}

@@ -1,5 +1,5 @@
 -- Bindings of rows beside each other.
-use Rattle.std.proofs.Common.{◌≡◌, List, [], ◌∷◌, ◌++◌, append_assoc, append-nil, refl, sym, ap}
+use Rattle.std.proofs.Common.{◌≡◌, List, [], ◌∷◌, append_assoc, append-nil, refl, ap}
 use Rattle.std.proofs.Math.Option.{Option, none, some}
 use Rattle.terms.specs.Term.{Terms}
 use Rattle.rewriting.specs.Bindings.{Bindings, joined}

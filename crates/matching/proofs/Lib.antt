@@ -6,3 +6,7 @@ pub mod Fittings
 pub mod Pairings
 pub mod Matches
 pub mod Sizings
+pub mod Sums
+pub mod Copies
+pub mod Rooms
+pub mod Needs

@@ -1,5 +1,5 @@
 -- A match under way.
-use Rattle.std.proofs.Common.{◌≡◌, ℕ, ◌+◌, ◌<◌, ◌≤◌, cond, true, List, [], ◌∷◌, ◌++◌, append_assoc, append-nil, length, drop, drop-cons, add-one, get_or, Some, None, Option, Ok, Err, Result, OnOk, OnErr, refl, sym, ap, ◌∙◌, subst, arith}
+use Rattle.std.proofs.Common.{◌≡◌, ℕ, ◌+◌, ◌<◌, ◌≤◌, cond, true, List, [], ◌∷◌, ◌++◌, append_assoc, append-nil, length, drop, drop-cons, add-one, get_or, Some, None, Option, Result, OnOk, OnErr, refl, sym, ap, ◌∙◌, subst, arith}
 use Rattle.std.proofs.Math.Option.{Option as Maybe, none, some}
 use Rattle.std.proofs.lemmas.Bool.{false≢true}
 use Rattle.std.proofs.lemmas.List.{length_push, drop_all}
@@ -11,18 +11,16 @@ use Rattle.terms.specs.Nodes.{vacant}
 use Rattle.terms.specs.Term.{Term, variable, instrument, apply, Terms, nil, cons}
 use Rattle.rewriting.specs.Bindings.{Bindings, joined}
 use Rattle.rewriting.specs.Next.{matching_all}
-use Rattle.rewriting.proofs.Matching.{joined_some}
 use Rattle.node_store.specs.Placed.{Placed, none as no_row, at, link, Holds, IsTerm, AreTerms}
 use Rattle.node_store.specs.Loading.{arguments_of}
 use Rattle.compiled.specs.declared.Check.{Check}
-use Rattle.compiled.specs.Symbols.{any}
 use Rattle.compiled.specs.Plans.{checks_of, checks_under}
 use Rattle.matching.specs.Fitting.{Fits, Begins}
 use Rattle.matching.specs.Matching.{Decides}
 use Rattle.matching.specs.Onward.{Ahead, Goes}
 use Rattle.matching.specs.Peeling.{Peels, done, end, Peeled}
 use Rattle.matching.proofs.Onwards.{links, ahead_some, ahead_none, ahead_first, listed}
-use Rattle.matching.proofs.Joinings.{matching_rows, joined_nothing, joined_with_nothing, joined_none, joined_assoc}
+use Rattle.matching.proofs.Joinings.{matching_rows, joined_nothing, joined_with_nothing, joined_assoc}
 use Rattle.matching.proofs.Fittings.{check_of, row_fits, rows_begin, begin_same}
 use Rattle.matching.proofs.Pairings.{all_checks, Paired, nothing, row, links_low, Taken, taken}
 

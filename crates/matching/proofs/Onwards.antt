@@ -1,14 +1,11 @@
 -- Rows that are still to be gone through, and where they begin.
-use Rattle.std.proofs.Common.{◌≡◌, ℕ, suc, ◌+◌, ◌<◌, ◌≤◌, List, [], ◌∷◌, ◌++◌, length, get_or, Some, None, Option, Ok, Err, Result, OnOk, OnErr, refl, sym, ap, ◌∙◌, subst, arith}
+use Rattle.std.proofs.Common.{◌≡◌, ℕ, ◌<◌, ◌≤◌, List, [], ◌∷◌, ◌++◌, length, Some, None, Option, Ok, Err, Result, OnOk, OnErr, refl, sym, ap, ◌∙◌, subst, arith}
 use Rattle.std.proofs.lemmas.Bool.{false≢true}
 use Rattle.std.specs.List.{cons_option}
 use Rattle.fixed_vec.specs.declared.Full.{Full}
-use Rattle.terms.specs.declared.node.Node.{Node}
-use Rattle.terms.specs.declared.symbol.Symbol.{Symbol}
-use Rattle.terms.specs.Nodes.{vacant}
-use Rattle.node_store.specs.Placed.{Placed, none, at, link, Holds, size}
-use Rattle.node_store.specs.Work.{HoldAll, size_all}
-use Rattle.matching.specs.Onward.{Ahead, Goes}
+use Rattle.node_store.specs.Placed.{Placed, none, at, link}
+use Rattle.node_store.specs.Work.{size_all}
+use Rattle.matching.specs.Onward.{Ahead}
 
 -- where the rows begin that have a node
 abbrev pub links : List Placed → List ℕ

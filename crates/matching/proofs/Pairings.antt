@@ -1,21 +1,20 @@
 -- Rows of a pattern beside rows of nodes, of which the first symbol is taken off.
-use Rattle.std.proofs.Common.{◌≡◌, ℕ, ◌+◌, ◌≤◌, cond, Bool, true, false, List, [], ◌∷◌, ◌++◌, append_assoc, length, length-append, Some, None, Option, is_some, refl, sym, ap, ◌∙◌, subst, arith, eq-eqb}
+use Rattle.std.proofs.Common.{◌≡◌, ℕ, ◌≤◌, cond, Bool, true, false, List, [], ◌∷◌, ◌++◌, append_assoc, length, length-append, Some, None, Option, is_some, refl, sym, ap, ◌∙◌, subst, arith, eq-eqb}
 use Rattle.std.proofs.lemmas.Bool.{false≢true}
-use Rattle.std.proofs.Math.Option.{Option as Maybe, none, some}
+use Rattle.std.proofs.Math.Option.{none, some}
 use Rattle.std.specs.List.{cons_option}
 use Rattle.terms.specs.declared.node.Node.{Node}
 use Rattle.terms.specs.declared.symbol.Symbol.{Symbol}
-use Rattle.terms.specs.declared.symbol.Symbol.TheVariants.{Variable, Instrument, Operator}
+use Rattle.terms.specs.declared.symbol.Symbol.TheVariants.{Instrument, Operator}
 use Rattle.terms.specs.Term.{Term, variable, instrument, apply, Terms, nil, cons}
 use Rattle.rewriting.specs.Bindings.{Bindings, joined}
-use Rattle.rewriting.specs.Next.{matching, matching_all}
+use Rattle.rewriting.specs.Next.{matching_all}
 use Rattle.node_store.specs.Placed.{Placed, none as no_row, at, link, Holds, IsTerm, AreTerms}
-use Rattle.node_store.specs.Work.{HoldAll}
 use Rattle.compiled.specs.declared.Check.{Check}
-use Rattle.compiled.specs.Symbols.{wanted, any, has_arguments}
+use Rattle.compiled.specs.Symbols.{any, has_arguments}
 use Rattle.compiled.specs.Plans.{checks_of}
-use Rattle.matching.specs.Fitting.{FitsFront, Fits}
-use Rattle.matching.specs.Peeling.{Peels, done, end, bind, leaf, under}
+use Rattle.matching.specs.Fitting.{Fits}
+use Rattle.matching.specs.Peeling.{Peels, bind, leaf, under}
 use Rattle.matching.proofs.Onwards.{links}
 use Rattle.matching.proofs.Joinings.{matching_rows, joined_nothing, joined_assoc}
 use Rattle.matching.proofs.Fittings.{check_of}

@@ -2,12 +2,12 @@
 use Rattle.std.proofs.Common.{◌≡◌, ℕ, zero, suc, ◌+◌, ◌<◌, ◌==◌, cond, Bool, true, false, ◌||◌, List, [], ◌∷◌, ◌++◌, append_assoc, append-nil, length, get_or, Option, refl, sym, ap, ◌∙◌, subst, arith}
 use Rattle.std.proofs.lemmas.Bool.{false≢true}
 use Rattle.terms.specs.declared.symbol.Symbol.{Symbol}
-use Rattle.terms.specs.Term.{Term, variable, instrument, apply, Terms, nil, cons}
+use Rattle.terms.specs.Term.{Term, variable, instrument, apply, Terms, cons}
 use Rattle.rewriting.specs.Bindings.{Bindings, bound}
-use Rattle.node_store.specs.Placed.{Placed, none, at, size, IsTerm}
+use Rattle.node_store.specs.Placed.{Placed, none, at, IsTerm}
 use Rattle.node_store.specs.Grafting.{Sub, here, under, later}
 use Rattle.node_store.specs.Work.{size_all}
-use Rattle.compiled.specs.Symbols.{parts_of, parts_under, has_variable, is_variable, home, plain}
+use Rattle.compiled.specs.Symbols.{parts_of, has_variable, is_variable, home, plain}
 use Rattle.matching.specs.Peeling.{Peels, done, end, bind, leaf, under as inside, Peeled}
 
 -- the parts of some rows

@@ -1,11 +1,7 @@
 use Rattle.std.proofs.Common.{None, false, reverse, refl, ap, sym, ◌∙◌, subst, arith}
 use Rattle.std.proofs.lemmas.Bool.{false≢true}
-use Rattle.fixed_vec.specs.FixedVec.{items, content}
-use Rattle.terms.specs.Rule.{Rule}
-use Rattle.node_store.specs.Loading.{arguments_of}
-use Rattle.compiled.specs.declared.Check.{Check}
 use Rattle.matching.specs.Fitting.{Begins}
-use Rattle.matching.proofs.Matches.{Underway, match_starts, begins_not, match_step, match_fails, match_misses, match_ends, next_check, no_check, checks_same}
+use Rattle.matching.proofs.Matches.{match_starts, begins_not, match_step, match_fails, match_misses, match_ends, next_check, no_check, checks_same}
 use Rattle.matching.proofs.places.matches.Goals as goal
 
 pub returns-then-not-begins : goal.returns-then-not-begins
