@@ -1,5 +1,5 @@
 -- Giving back the rows of variables that the right side does not have.
-use Rattle.std.proofs.Common.{◌≡◌, ℕ, suc, ◌+◌, ◌≤◌, Bool, true, false, cond, List, [], ◌∷◌, ◌++◌, map, length, get_or, set, None, Option, sym, refl, ap, ◌∙◌, subst, append_assoc, arith}
+use Rattle.std.proofs.Common.{◌≡◌, ℕ, suc, ◌+◌, ◌≤◌, Bool, true, false, cond, List, [], ◌∷◌, ◌++◌, map, length, get_or, set, None, Option, sym, refl, ap, ◌∙◌, subst, append_assoc, ⊎_elim, ◌⊎◌, arith}
 use Rattle.std.proofs.lemmas.List.{length-set, length-append}
 use Rattle.std.proofs.Math.Seq.{get_or-append_seam}
 use Rattle.terms.specs.declared.symbol.Symbol.{Symbol}
@@ -76,3 +76,14 @@ module _ (h : Held) (w : Placed) (right : List Term) (places : List ℕ) (all : 
           let u = subst (λ p. Work (given m p (sizes k)) h (kept′ ++ others) (at q None ks g)) (sym stands) (row_given m h q s ks (kept′ ++ others) g (sizes k) sized few z) in
           let r = rec others (at q None ks g) (given m (get_or places k 0) (sizes k)) (omega arith) u in
           record { gone = r.gone; work = r.work; long = r.long ∙ y }
+
+-- one more part is given back
+pub without_next : (m k x : Memory) (i n p : ℕ) (ks js ns os ps : List ℕ) → ks ≡ i ∷ js → ns ≡ n ∷ os → p ≡ get_or ps i 0 → k ≡ given m p n → without m ks ns ps ≡ x → without k js os ps ≡ x
+without_next m k x i n p ks js ns os ps e f q g a = (λ d. without ((g ∙ ap (λ c. given m c n) q) d) js os ps) ∙ sym (λ d. without m (e d) (f d) ps) ∙ a
+
+without_no_size : (m : Memory) (ks ps : List ℕ) → without m ks [] ps ≡ m
+without_no_size m [] ps = refl
+without_no_size m (k ∷ ks) ps = refl
+
+pub without_end : (m x : Memory) (ks ns ps : List ℕ) → (ks ≡ []) ⊎ (ns ≡ []) → without m ks ns ps ≡ x → m ≡ x
+without_end m x ks ns ps o a = ⊎_elim (λ e. sym (ap (λ l. without m l ns ps) e) ∙ a) (λ e. sym (ap (λ l. without m ks l ps) e ∙ without_no_size m ks ps) ∙ a) o

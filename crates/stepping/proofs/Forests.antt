@@ -1,5 +1,6 @@
 -- Rows of a right side that are made, and those whose siblings or first node are still to be made.
 use Rattle.std.proofs.Common.{◌≡◌, ℕ, ◌+◌, ◌≤◌, Bool, true, false, List, [], ◌∷◌, ◌++◌, length, Some, None, Option, is_some, sym, refl, ap, ◌∙◌, subst, append_assoc, arith}
+use Rattle.std.specs.List.{cons_option}
 use Rattle.terms.specs.Term.{Term, variable, instrument, apply, Terms, nil, cons, how_many}
 use Rattle.terms.specs.Substitution.{Substitution, fill, fill_all}
 use Rattle.node_store.specs.Memory.{Memory}
@@ -32,12 +33,12 @@ module _ (σ : Substitution) (m : Memory) (h : Held) (others : List Placed) (sta
   forest_skips pss rss (one s) f = forest_skips pss (nil ∷ rss) s (record { rows = none ∷ f.rows; gone = f.gone; grown = row nothing f.grown; stacked = f.stacked; work = with_none m h (f.rows ++ others) f.gone f.work })
 
 -- what is taken off the stack is the link to the first row
-pub taken_link : (b : Bool) (q : Placed) (qs : List Placed) (before after : List ℕ) (r : Option ℕ) → before ≡ links (q ∷ qs) → b ≡ is_some (link q) → Taken b before after r → (r ≡ link q) × (after ≡ links qs)
-taken_link true none qs before after r e n t = absurd (let z : ⊥ = cc in z)
-taken_link true (at i s ks us) qs before after None e n t = absurd (let z : ⊥ = cc in z)
-taken_link true (at i s ks us) qs before after (Some x) e n t = (cc, cc)
-taken_link false none qs before after r e n t = (t.1, t.0 ∙ e)
-taken_link false (at i s ks us) qs before after r e n t = absurd (let z : ⊥ = cc in z)
+pub taken_link : (b : Bool) (q : Placed) (rest before after : List ℕ) (r : Option ℕ) → before ≡ cons_option (link q) rest → b ≡ is_some (link q) → Taken b before after r → (r ≡ link q) × (after ≡ rest)
+taken_link true none rest before after r e n t = absurd (let z : ⊥ = cc in z)
+taken_link true (at i s ks us) rest before after None e n t = absurd (let z : ⊥ = cc in z)
+taken_link true (at i s ks us) rest before after (Some x) e n t = (cc, cc)
+taken_link false none rest before after r e n t = (t.1, t.0 ∙ e)
+taken_link false (at i s ks us) rest before after r e n t = absurd (let z : ⊥ = cc in z)
 
 pub links_shorter : (a c : Placed) (qs : List Placed) → length (links qs) ≤ length (links (a ∷ c ∷ qs))
 links_shorter none none qs = omega arith

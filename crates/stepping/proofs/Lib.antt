@@ -5,3 +5,4 @@ pub mod Keeping
 pub mod Dropping
 pub mod Forests
 pub mod Pieces
+pub mod Copies

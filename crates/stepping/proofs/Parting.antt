@@ -1,5 +1,5 @@
 -- Taking apart what a left side matched.
-use Rattle.std.proofs.Common.{◌≡◌, ℕ, ◌≤◌, List, [], ◌∷◌, ◌++◌, length, get_or, set, Some, None, Option, sym, refl, ap, ◌∙◌, subst, append_assoc, arith}
+use Rattle.std.proofs.Common.{◌≡◌, ℕ, ◌≤◌, List, [], ◌∷◌, ◌++◌, length, get_or, set, Some, None, Option, sym, refl, ap, ◌∙◌, subst, append_assoc, ⊎_elim, ◌⊎◌, arith}
 use Rattle.std.proofs.lemmas.List.{length-set}
 use Rattle.terms.specs.declared.symbol.Symbol.{Symbol}
 use Rattle.terms.specs.declared.symbol.Symbol.TheVariants.{Instrument, Operator}
@@ -48,3 +48,14 @@ taken_apart m h pss qs ps kept v others g (under {f = f} {q = q} {ks = ks} {us =
     let r = taken_apart (freed_at m q) h (fs ∷ ts ∷ pss′) (ks ∷ us ∷ qs′) ps′ kept v others (at q None none g) p (omega arith) e in
     let a : checks_of fs ++ (checks_of ts ++ checks_all pss′) ≡ (checks_of fs ++ checks_of ts) ++ checks_all pss′ = sym (append_assoc (checks_of fs) (checks_of ts) (checks_all pss′)) in
     subst (λ cs. Loose m h (kept ++ others) (parted (freed_at m q) cs ps′)) a (record { gone = r.gone; work = r.work; long = r.long ∙ l })
+
+-- one more place is gone through
+pub parted_next : (m k x : Memory) (c : Check) (p : ℕ) (s : Option Symbol) (cs ds : List Check) (ps qs : List ℕ) → cs ≡ c ∷ ds → ps ≡ p ∷ qs → c.symbol ≡ s → k ≡ parted_at m s p → parted m cs ps ≡ x → parted k ds qs ≡ x
+parted_next m k x c p s cs ds ps qs e f g n a = (λ i. parted ((n ∙ ap (λ y. parted_at m y p) (sym g)) i) ds qs) ∙ sym (λ i. parted m (e i) (f i)) ∙ a
+
+parted_no_place : (m : Memory) (cs : List Check) → parted m cs [] ≡ m
+parted_no_place m [] = refl
+parted_no_place m (c ∷ cs) = refl
+
+pub parted_end : (m x : Memory) (cs : List Check) (ps : List ℕ) → (cs ≡ []) ⊎ (ps ≡ []) → parted m cs ps ≡ x → m ≡ x
+parted_end m x cs ps o a = ⊎_elim (λ e. sym (ap (λ l. parted m l ps) e) ∙ a) (λ e. sym (ap (λ l. parted m cs l) e ∙ parted_no_place m cs) ∙ a) o

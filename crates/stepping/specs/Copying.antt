@@ -1,8 +1,10 @@
 -- Copying a part in nodes.
-use Rattle.std.specs.Prelude.{◌≡◌, ℕ, ◌+◌, ◌≤◌, Bool, true, false, List, ◌∷◌, length, Some, None, Option}
+use Rattle.std.specs.Prelude.{◌≡◌, ℕ, ◌+◌, ◌<◌, ◌≤◌, Bool, true, false, List, ◌∷◌, length, Some, None, Option, is_some, slice_index_or}
+use Rattle.std.specs.List.{cons_option}
 use Rattle.fixed_vec.specs.FixedVec.{Removed}
 use Rattle.terms.specs.declared.symbol.Symbol.{Symbol}
 use Rattle.terms.specs.Term.{Term, symbols}
+use Rattle.terms.specs.Nodes.{vacant}
 use Rattle.traversal.specs.Walks.{most_symbols}
 use Rattle.node_store.specs.Memory.{Memory}
 use Rattle.node_store.specs.Placed.{Placed, none, at, link, IsTerm, Held}
@@ -12,6 +14,22 @@ use Rattle.node_store.specs.Work.{Work}
 abbrev pub Taken : Bool → List ℕ → List ℕ → Option ℕ → Type 0
 Taken true before after r = Removed before after r
 Taken false before after r = (after ≡ before) × (r ≡ None)
+
+-- a new node stands over one row and before another, and on top of the stack in place of their links
+pub record Repeated (m : Memory) (h : Held) (s : Symbol) (a b : Placed) (rest : List ℕ) (qs : List Placed) (k : Memory) (after : List ℕ) (r : Option (Unit {0})) : Type 0 where
+  pub place : ℕ
+  pub gone : Placed
+  pub answer : r ≡ Some tt
+  pub stacked : after ≡ place ∷ rest
+  pub work : Work k h (at place (Some s) a b ∷ qs) gone
+  pub free : k.free + 1 ≡ m.free
+  pub long : length k.nodes ≡ length m.nodes
+
+-- that is so for the symbol at a place, if there are rows for its arguments and its siblings where it has them, and if a node is free
+abbrev pub Repeats : Memory → ℕ → List ℕ → Memory → List ℕ → Option (Unit {0}) → Type 0
+Repeats m p before k after r =
+    (h : Held) (s : Symbol) (a b : Placed) (rest : List ℕ) (qs : List Placed) (g : Placed) → (slice_index_or m.nodes p vacant).symbol ≡ Some s → is_some (slice_index_or m.nodes p vacant).first ≡ is_some (link a) → is_some (slice_index_or m.nodes p vacant).next ≡ is_some (link b)
+    → before ≡ cons_option (link a) (cons_option (link b) rest) → length before < most_symbols → Work m h (a ∷ b ∷ qs) g → 1 ≤ m.free → length m.nodes ≤ most_symbols → Repeated m h s a b rest qs k after r
 
 -- the part at a place stands in new nodes too, before a row
 pub record Copied (m : Memory) (h : Held) (p : ℕ) (s : Option Symbol) (ks : Placed) (t : Term) (b : Placed) (qs : List Placed) (k : Memory) (r : Option ℕ) : Type 0 where
