@@ -15,6 +15,8 @@ use Rattle.node_store.specs.Memory.{Memory}
 use Rattle.node_store.specs.Placed.{Placed, none, at, link, Holds, size, IsTerm, AreTerms, Held}
 use Rattle.node_store.specs.Work.{Work, HoldAll, Joins, Joined}
 use Rattle.node_store.proofs.Rows.{with_none}
+use Rattle.node_store.proofs.Counting.{all_nodes}
+use Rattle.node_store.proofs.Standing.{term_size}
 use Rattle.node_store.proofs.Tracing.{small}
 use Rattle.matching.specs.Surveying.{in_order}
 use Rattle.matching.proofs.Onwards.{links}
@@ -159,7 +161,7 @@ walked_named start ps qs h (skip w) = (walked_named start ps (none ∷ qs) h w).
 walked_named start ps qs h (walk {ps = ps′} {i = i} {s = s} {ks = ks} {us = us} {qs = qs′} w e) = let a = walked_named start ps′ (at i s ks us ∷ qs′) h w in (a.0.1, (a.0.2, a.1))
 
 -- the last place
-record LastWalked (start : Placed) (ps : List ℕ) (p : ℕ) (qs : List Placed) : Type 0 where
+pub record LastWalked (start : Placed) (ps : List ℕ) (p : ℕ) (qs : List Placed) : Type 0 where
   symbol : Option Symbol
   under : Placed
   later : Placed
@@ -188,3 +190,147 @@ first_walked : (start : Placed) (rs : List ℕ) (qs : List Placed) → rs ≡ []
 first_walked start rs qs n begin = same
 first_walked start rs qs n (skip w) = one (first_walked start rs (none ∷ qs) n w)
 first_walked start rs qs n (walk {ps = ps′} {i = i} w e) = let l = ap length (sym e ∙ n) in absurd (let z : ⊥ = omega (arith, length-append ps′ (i ∷ [])) in z)
+
+abbrev pub SameRows : List Placed → List Placed → Type 0
+SameRows [] [] = Unit {0}
+SameRows [] (r ∷ rs) = ⊥
+SameRows (q ∷ qs) [] = ⊥
+SameRows (q ∷ qs) (r ∷ rs) = Same q r × SameRows qs rs
+
+in_order-long : (q : Placed) → length (in_order q) ≡ size q
+in_order-long none = refl
+in_order-long (at i s ks us) = let a = in_order-long ks in let b = in_order-long us in omega (arith, length-append (in_order ks) (in_order us))
+
+-- rows stand that are the same as those that are left of the source, beside others, and a stack has the links to them
+pub record CopiedRows (m : Memory) (h : Held) (others : List Placed) (stack : List ℕ) (sources : List Placed) : Type 0 where
+  pub rows : List Placed
+  pub gone : Placed
+  pub same_rows : SameRows sources rows
+  pub stacked : stack ≡ links rows
+  pub work : Work m h (rows ++ others) gone
+
+copied_skips : (m : Memory) (h : Held) (others : List Placed) (stack : List ℕ) (qs rs : List Placed) → Skips none qs rs → CopiedRows m h others stack rs → CopiedRows m h others stack qs
+copied_skips m h others stack qs rs same c = c
+copied_skips m h others stack qs rs (one s) c = copied_skips m h others stack qs (none ∷ rs) s (record { rows = none ∷ c.rows; gone = c.gone; same_rows = (tt, c.same_rows); stacked = c.stacked; work = with_none m h (c.rows ++ others) c.gone c.work })
+
+no_items : (l : List ℕ) → length l ≡ 0 → l ≡ []
+no_items [] e = refl
+no_items (x ∷ l) e = absurd (let z : ⊥ = omega arith in z)
+
+popped_link : (q : Placed) (before after : List ℕ) (o : Option ℕ) → before ≡ links (q ∷ []) → Removed before after o → o ≡ link q
+popped_link none before after None e p = refl
+popped_link none before after (Some x) e p = absurd (let z : ⊥ = cc in z)
+popped_link (at i s ks us) before after None e p = absurd (let z : ⊥ = cc in z)
+popped_link (at i s ks us) before after (Some x) e p = cc
+
+-- k of the n nodes below a part are copied, the last ones
+pub record Copying (m₀ : Memory) (h : Held) (others : List Placed) (source : Placed) (n k : ℕ) (m : Memory) (order stack : List ℕ) : Type 0 where
+  pub sources : List Placed
+  pub walked : Walked source order sources
+  pub copied : CopiedRows m h others stack sources
+  pub free : m.free + k ≡ m₀.free
+  pub sum : k + length order ≡ n
+  pub whole : n ≡ size source
+  pub short : length stack ≤ k
+  pub long : length m.nodes ≡ length m₀.nodes
+
+module _ (m₀ : Memory) (h : Held) (p : ℕ) (s : Option Symbol) (ks : Placed) (t : Term) (b : Placed) (qs : List Placed) (g : Placed) (work : Work m₀ h (b ∷ at p s ks none ∷ qs) g) (is : IsTerm s ks t) (room : symbols t ≤ m₀.free) (few : length m₀.nodes ≤ most_symbols) where
+  -- the source has no more nodes than can be surveyed
+  pub copy_size : size ks ≤ most_symbols
+  copy_size = omega (arith, term_size s ks t is, all_nodes m₀ h (b ∷ at p s ks none ∷ qs) g work)
+
+  pub copy_starts : (n : ℕ) (order stack : List ℕ) → n ≡ length order → order ≡ in_order ks → stack ≡ [] → Copying m₀ h (b ∷ at p s ks none ∷ qs) ks n 0 m₀ order stack
+  copy_starts n order stack w e f = record {
+    sources = [];
+    walked = subst (λ l. Walked ks l []) (sym e) (walk_all ks);
+    copied = record { rows = []; gone = g; same_rows = tt; stacked = f; work = work };
+    free = omega arith;
+    sum = omega arith;
+    whole = w ∙ ap length e ∙ in_order-long ks;
+    short = let z = ap length f in omega arith;
+    long = refl;
+  }
+
+  module _ (n k : ℕ) (m m′ : Memory) (order order′ stack stack′ : List ℕ) (x : ℕ) (r : Option (Unit {0})) (e : order ≡ order′ ++ x ∷ []) (made : Repeats m x stack m′ stack′ r) where
+    pub record Step : Type 0 where
+      pub answer : r ≡ Some tt
+      pub copying : Copying m₀ h (b ∷ at p s ks none ∷ qs) ks n (k + 1) m′ order′ stack′
+
+    source_holds : (rows : List Placed) → HoldAll m.nodes (rows ++ (b ∷ at p s ks none ∷ qs)) → Holds m.nodes ks
+    source_holds [] a = a.1.0.2
+    source_holds (r ∷ rs) a = source_holds rs a.1
+
+    step_rows : (i : ℕ) (y : Option Symbol) (js us : Placed) (others : List Placed) → Walked ks order′ (at x y js us ∷ others) → CopiedRows m h (b ∷ at p s ks none ∷ qs) stack (js ∷ us ∷ others) → Copying m₀ h (b ∷ at p s ks none ∷ qs) ks n k m order stack → Step
+    step_rows i y js us others w c old = go c.rows c.same_rows c.stacked c.work
+      where
+        go : (rows : List Placed) → SameRows (js ∷ us ∷ others) rows → stack ≡ links rows → Work m h (rows ++ (b ∷ at p s ks none ∷ qs)) c.gone → Step
+        go [] alike st wk = absurd alike
+        go (a ∷ []) alike st wk = absurd alike.1
+        go (a ∷ d ∷ rows) alike st wk =
+            let held = walked_hold m.nodes ks order′ (at x y js us ∷ others) (source_holds (a ∷ d ∷ rows) wk.rows) w in
+            let named = walked_named ks order′ (at x y js us ∷ others) (named_term s ks t is).1 w in
+            let node = held.0.1 in
+            let long = old.long in
+            let size = term_size s ks t is in
+            let many = ap length e in
+            let most = copy_size in
+            let last = length-append order′ (x ∷ []) in
+            let sum = old.sum in
+            let whole = old.whole in
+            let short = old.short in
+            let free = old.free in
+            let stack_long = ap length st in
+            let less = links_shorter a d rows in
+            let z = made h named.0.0.0 a d (links rows) (rows ++ (b ∷ at p s ks none ∷ qs)) c.gone (ap (λ (n : Node). n.symbol) node ∙ named.0.0.1) (ap (λ (n : Node). is_some n.first) node ∙ same_some js a alike.0) (ap (λ (n : Node). is_some n.next) node ∙ same_some us d alike.1.0) st (omega arith) wk (omega arith) (omega (arith, old.long)) in
+            let new = ap length z.stacked in
+            record {
+              answer = z.answer;
+              copying = record {
+                sources = at x y js us ∷ others;
+                walked = w;
+                copied = record { rows = at z.place (Some named.0.0.0) a d ∷ rows; gone = z.gone; same_rows = ((named.0.0.1, alike.0, alike.1.0), alike.1.1); stacked = z.stacked; work = z.work };
+                free = omega (arith, z.free);
+                sum = omega arith;
+                whole = whole;
+                short = omega arith;
+                long = z.long ∙ old.long;
+              };
+            }
+
+    pub copy_step : Copying m₀ h (b ∷ at p s ks none ∷ qs) ks n k m order stack → Step
+    copy_step c = let l = last_walked ks order order′ x c.sources e c.walked in step_rows x l.symbol l.under l.later l.others l.was (copied_skips m h (b ∷ at p s ks none ∷ qs) stack (l.under ∷ l.later ∷ l.others) c.sources l.skips c.copied) c
+
+  -- a place was left
+  pub copy_misses : (n k : ℕ) (m : Memory) (order after stack : List ℕ) → k < n → Popped order after None → Copying m₀ h (b ∷ at p s ks none ∷ qs) ks n k m order stack → ⊥
+  copy_misses n k m order after stack less e c = let z = ap length e.0 in let y : ⊥ = omega (arith, c.sum) in y
+
+  -- all are copied, and the first node is made over them
+  module _ (n k : ℕ) (m m′ : Memory) (order stack after : List ℕ) (top next : Option ℕ) (y : Symbol) (r : Option ℕ) (all : n ≤ k) (named : s ≡ Some y) (e : link b ≡ next) (popped : Removed stack after top) (joins : Joins m y top next m′ r) where
+    whole_copied : CopiedRows m h (b ∷ at p s ks none ∷ qs) stack (ks ∷ []) → Copying m₀ h (b ∷ at p s ks none ∷ qs) ks n k m order stack → Copied m₀ h p s ks t b qs m′ r
+    whole_copied c old = go c.rows c.same_rows c.stacked c.work
+      where
+        ended : (a : Placed) → Same ks a → link a ≡ top → Work m h (a ∷ b ∷ at p s ks none ∷ qs) c.gone → (o : Option ℕ) → Joined m h (Some y) a b (at p s ks none ∷ qs) m′ o → Copied m₀ h p s ks t b qs m′ o
+        ended a alike first wk None j = absurd (let z : ⊥ = omega (arith, old.free, old.sum, old.whole, term_size s ks t is) in z)
+        ended a alike first wk (Some i) j =
+            let f = j.2 in
+            record {
+              place = i;
+              row = a;
+              gone = j.0;
+              answer = refl;
+              is = same_term s s ks a t refl alike is;
+              work = subst (λ x. Work m′ h (at i x a b ∷ at p s ks none ∷ qs) j.0) (sym named) j.1;
+              free = omega (arith, old.free, old.sum, old.whole, term_size s ks t is);
+              long = j.3 ∙ old.long;
+            }
+
+        go : (rows : List Placed) → SameRows (ks ∷ []) rows → stack ≡ links rows → Work m h (rows ++ (b ∷ at p s ks none ∷ qs)) c.gone → Copied m₀ h p s ks t b qs m′ r
+        go [] alike st wk = absurd alike
+        go (a ∷ d ∷ rows) alike st wk = absurd alike.1
+        go (a ∷ []) alike st wk = ended a alike.0 (sym (popped_link a stack after top st popped)) wk r (joins h a b (at p s ks none ∷ qs) c.gone wk (sym (popped_link a stack after top st popped)) e (few_nodes m (omega (arith, old.long))))
+
+    pub copy_ends : Copying m₀ h (b ∷ at p s ks none ∷ qs) ks n k m order stack → Copied m₀ h p s ks t b qs m′ r
+    copy_ends c = whole_copied (copied_skips m h (b ∷ at p s ks none ∷ qs) stack (ks ∷ []) c.sources (first_walked ks order c.sources none_left c.walked) c.copied) c
+      where
+        none_left : order ≡ []
+        none_left = no_items order (omega (arith, c.sum))

@@ -1,32 +1,45 @@
+ghost use Rattle.fixed_vec.specs.FixedVec.{content};
+ghost use Rattle.node_store.specs.Memory.{memory};
+ghost use Rattle.stepping.specs.Copying.{Taken, Copies, Repeats};
+
 use fixed_vec::FixedVec;
 use matching::survey::{Scratch, survey};
 use node_store::store::Store;
 use traversal::MOST;
 
-// A copy of the term at a place, before a row.
+// A copy of the part at a place, before a row.
 pub fn copy(
     store: &mut Store,
     place: u16,
     next: Option<u16>,
     scratch: &mut Scratch,
-) -> Option<u16> {
+) -> Option<u16>
+    ensures { Copies (memory store.old) place next (memory store.new) result }
+{
     let node = store.node(place);
     survey(store, node.first, scratch);
-    let n = scratch.order.len();
-    for _n in 0..n {
-        let Some(place) = scratch.order.pop() else {
-            return None;
-        };
-        again(store, place, &mut scratch.stack)?;
+    for _n in 0..scratch.order.len() {
+        let source = scratch.order.pop()?;
+        repeat(store, source, &mut scratch.stack)?;
     }
-    let first = if node.first.is_some() { scratch.stack.pop() } else { None };
-    store.join(node.symbol?, first, next)
+    store.join(node.symbol?, scratch.stack.pop(), next)
 }
 
-fn again(store: &mut Store, place: u16, stack: &mut FixedVec<u16, MOST>) -> Option<()> {
+// The node at a place again, over the row of copies that is on top of the stack, if it has arguments, and before the next one, if it has a
+// sibling.
+fn repeat(store: &mut Store, place: u16, stack: &mut FixedVec<u16, MOST>) -> Option<()>
+    ensures { Repeats (memory store.old) place (content stack.old) (memory store.new) (content stack.new) result }
+{
     let node = store.node(place);
-    let first = if node.first.is_some() { stack.pop() } else { None };
-    let next = if node.next.is_some() { stack.pop() } else { None };
-    let made = store.join(node.symbol?, first, next)?;
-    stack.push(made).ok()
+    let first = take(stack, node.first.is_some());
+    let next = take(stack, node.next.is_some());
+    let new = store.join(node.symbol?, first, next)?;
+    stack.push(new).ok()
+}
+
+// The top of a stack, taken off if it is wanted.
+pub fn take<const N: usize>(stack: &mut FixedVec<u16, N>, wanted: bool) -> Option<u16>
+    ensures { Taken wanted (content stack.old) (content stack.new) result }
+{
+    if wanted { stack.pop() } else { None }
 }
