@@ -1,1 +1,4 @@
+pub mod Searched
+pub mod Searching
+pub mod Revisits
 pub mod Reducing

@@ -2,4 +2,5 @@
 #![tactic(auto)]
 
 pub mod reduce;
-pub mod search;
+mod search;
+mod visits;

@@ -1,16 +1,20 @@
+ghost use Rattle.std.specs.Prelude.{◌≡◌};
+ghost use Rattle.fixed_vec.specs.FixedVec.{items, content};
 ghost use Rattle.node_store.specs.Memory.{memory};
 ghost use Rattle.engine.specs.Reducing.{Reduces};
+ghost use Rattle.engine.specs.Searching.{Starts, Makes};
+ghost use Rattle.engine.specs.Revisits.{is_operator, Revisits};
 
-use crate::search::{Hit, Visit, search};
+use crate::search::{Hit, search};
+use crate::visits::{Visit, Visits, put, put_row};
 use compiled::{CompiledRules, Plan, Source};
 use fixed_vec::FixedVec;
-use node_store::store::Store;
-use matching::survey::Scratch;
 use matching::places::Places;
 use matching::room::has_room;
+use matching::survey::Scratch;
+use node_store::store::Store;
 use stepping::step::step;
 use terms::symbol::Symbol;
-use traversal::MOST;
 
 // Why no more steps are made.
 #[derive(Clone, Copy, PartialEq, Eq, Debug)]
@@ -30,36 +34,48 @@ pub struct Reduced {
 pub fn reduce(store: &mut Store, rules: &CompiledRules, place: u16, allowed: u32) -> Reduced
     ensures { Reduces (memory store.old) rules.now place allowed (memory store.new) result }
 {
-    let mut todo: FixedVec<Visit, MOST> = FixedVec::new(Visit::Fresh(0));
+    let mut todo = start(store, place);
     let mut scratch = Scratch::new();
-    let mut places: Places = FixedVec::new(0);
-    let _ = todo.push(Visit::Reached(place));
-    if let Some(first) = store.node(place).first {
-        let _ = todo.push(Visit::Fresh(first));
-    }
+    let mut places = Places::new(0);
     for steps in 0..allowed {
         let Some(hit) = search(store, rules, &mut todo, &mut places) else {
-            return Reduced { steps, stop: Stop::Finished };
+            let stop = Stop::Finished;
+            return Reduced { steps, stop };
         };
         if !make(store, rules, hit, &places, &mut scratch, &mut todo) {
-            return Reduced { steps, stop: Stop::Short };
+            let stop = Stop::Short;
+            return Reduced { steps, stop };
         }
     }
     let stop = match search(store, rules, &mut todo, &mut places) {
         Some(_) => Stop::Spent,
         None => Stop::Finished,
     };
-    Reduced { steps: allowed, stop }
+    let steps = allowed;
+    Reduced { steps, stop }
 }
 
+// The visits to a term that nobody has looked at.
+fn start(store: &Store, place: u16) -> Visits
+    ensures { Starts (memory store.now) place (content result) }
+{
+    let mut todo = Visits::new(Visit::Reached(place));
+    put(&mut todo, Visit::Reached(place));
+    put_row(&mut todo, store.node(place).first);
+    todo
+}
+
+// Makes the step that was found, if there is room, and leaves visits to what it makes.
 fn make(
     store: &mut Store,
     rules: &CompiledRules,
     hit: Hit,
     places: &Places,
     scratch: &mut Scratch,
-    todo: &mut FixedVec<Visit, MOST>,
-) -> bool {
+    todo: &mut Visits,
+) -> bool
+    ensures { Makes (memory store.old) rules.now hit (items places.now) (content todo.old) (memory store.new) (content todo.new) result }
+{
     let Some(plan) = rules.plan(hit.rule) else {
         return false;
     };
@@ -67,20 +83,38 @@ fn make(
     if !has_room(store, plan, places, scratch, &mut sizes) {
         return false;
     }
-    let mut made: Places = FixedVec::new(0);
-    let _ = step(store, plan, hit.place, places, &sizes, scratch, &mut made);
+    let mut made = Places::new(0);
+    let Some(()) = step(store, plan, hit.place, places, &sizes, scratch, &mut made) else {
+        return false;
+    };
     revisit(plan, hit.place, &made, todo);
     true
 }
 
-fn revisit(plan: &Plan, place: u16, made: &Places, todo: &mut FixedVec<Visit, MOST>) {
-    if let Source::Made(Symbol::Operator(_)) = plan.root.source {
-        let _ = todo.push(Visit::Reached(place));
+// Leaves visits to the operators that a step made, arguments first.
+fn revisit(plan: &Plan, place: u16, made: &Places, todo: &mut Visits)
+    ensures { Revisits plan.now place (content made.now) (content todo.old) (content todo.new) }
+{
+    if makes_operator(plan.root.source) {
+        put(todo, Visit::Reached(place));
     }
-    let n = made.len();
-    for number in plan.visits.iter().rev() {
-        if let Some(new) = made.get(n.saturating_sub(1).saturating_sub(*number)) {
-            let _ = todo.push(Visit::Reached(*new));
+    let visits = plan.visits.as_slice();
+    let places = made.as_slice();
+    let n = places.len();
+    for k in 0..visits.len() {
+        let number = visits[visits.len() - 1 - k];
+        if number < n {
+            put(todo, Visit::Reached(places[n - 1 - number]));
         }
+    }
+}
+
+// Whether a symbol that a step makes is an operator.
+fn makes_operator(source: Source) -> bool
+    ensures { result ≡ is_operator source }
+{
+    match source {
+        Source::Made(symbol) => matches!(symbol, Symbol::Operator(_)),
+        Source::Moved(_) | Source::Copied(_) => false,
     }
 }

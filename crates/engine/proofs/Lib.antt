@@ -1,0 +1,9 @@
+pub mod Nexts
+pub mod Tops
+pub mod Seeks
+pub mod Candidates
+pub mod Looks
+pub mod Revisiting
+pub mod Growths
+pub mod Making
+pub mod Reductions
