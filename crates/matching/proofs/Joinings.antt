@@ -13,10 +13,6 @@ pub joined_with_nothing : (o : Option Bindings) → joined o (some []) ≡ o
 joined_with_nothing none = refl
 joined_with_nothing (some m) = ap some (append-nil m)
 
-pub joined_none : (o : Option Bindings) → joined o none ≡ none
-joined_none none = refl
-joined_none (some m) = refl
-
 pub joined_assoc : (o p q : Option Bindings) → joined (joined o p) q ≡ joined o (joined p q)
 joined_assoc none p q = refl
 joined_assoc (some m) none q = refl

@@ -25,13 +25,14 @@ use Rattle.matching.proofs.Sums.{times, times_row, times_term, has_times, times_
 use Rattle.matching.proofs.Copies.{copies, copied_under, filled_symbols, weigh_copies, Weighed}
 use Rattle.matching.proofs.Rooms.{Standing, standing, found_size, size_of, OfSize, AtVariables, numbered, sized_dropped, sized_copies}
 
-parts_same : (t : Term) → parts_under t ≡ parts_of (arguments_of t)
+-- the parts behind the root are those of the arguments
+pub parts_same : (t : Term) → parts_under t ≡ parts_of (arguments_of t)
 parts_same (variable x) = refl
 parts_same (instrument n) = refl
 parts_same (apply f ts) = refl
 
 -- a rule's variables are in the parts behind its root
-left_times : (sig : Sig) (r : Rule) → RuleOf sig r → (x : ℕ) → occurrences x r.left ≡ times x (parts_under r.left)
+pub left_times : (sig : Sig) (r : Rule) → RuleOf sig r → (x : ℕ) → occurrences x r.left ≡ times x (parts_under r.left)
 left_times sig r rule x = go r.left rule.operator_first
   where
     go : (t : Term) → OperatorFirst t → occurrences x t ≡ times x (parts_under t)

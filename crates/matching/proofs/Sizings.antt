@@ -22,20 +22,20 @@ in_order_long (at i s ks us) =
 pub size_read : (order : List ℕ) (n : ℕ) (q : Placed) → order ≡ in_order q → n ≡ suc (size q) → length order + 1 ≡ n
 size_read order n q e f = let a = ap length e in let b = in_order_long q in omega arith
 
-pub as_many_sizes : (ns : List Node) (places ks sizes : List ℕ) → AllSized ns places ks sizes → length sizes ≡ length ks
+as_many_sizes : (ns : List Node) (places ks sizes : List ℕ) → AllSized ns places ks sizes → length sizes ≡ length ks
 as_many_sizes ns places [] [] a = refl
 as_many_sizes ns places [] (n ∷ sizes) a = absurd a
 as_many_sizes ns places (k ∷ ks) [] a = absurd a
 as_many_sizes ns places (k ∷ ks) (n ∷ sizes) a = ap suc (as_many_sizes ns places ks sizes a.1)
 
-pub sized_at : (ns : List Node) (places ks sizes : List ℕ) (i : ℕ) → i < length ks → AllSized ns places ks sizes → Sized ns (get_or places (get_or ks i 0) 0) (get_or sizes i 0)
+sized_at : (ns : List Node) (places ks sizes : List ℕ) (i : ℕ) → i < length ks → AllSized ns places ks sizes → Sized ns (get_or places (get_or ks i 0) 0) (get_or sizes i 0)
 sized_at ns places [] sizes i h a = absurd (let y : ⊥ = omega arith in y)
 sized_at ns places (k ∷ ks) [] i h a = absurd a
 sized_at ns places (k ∷ ks) (n ∷ sizes) zero h a = a.0
 sized_at ns places (k ∷ ks) (n ∷ sizes) (suc i) h a = sized_at ns places ks sizes i (omega arith) a.1
 
 -- one size more is counted
-pub count_more : (before n start i : ℕ) (sizes : List ℕ) → i < length sizes → n ≡ get_or sizes i 0 → before ≡ counted (start + sum (take i sizes)) → counted (before + n) ≡ counted (start + sum (take (i + 1) sizes))
+count_more : (before n start i : ℕ) (sizes : List ℕ) → i < length sizes → n ≡ get_or sizes i 0 → before ≡ counted (start + sum (take i sizes)) → counted (before + n) ≡ counted (start + sum (take (i + 1) sizes))
 count_more before n start i sizes h e b = let s = sum_by_more (λ x. x) sizes i 0 h in omega arith
 
 module _ (ns : List Node) (places ks numbers sizes : List ℕ) (same : numbers ≡ ks) (all : AllSized ns places ks sizes) where

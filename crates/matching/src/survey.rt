@@ -1,3 +1,4 @@
+ghost use Rattle.std.specs.Prelude.{◌≡◌, []};
 ghost use Rattle.fixed_vec.specs.FixedVec.{items};
 ghost use Rattle.node_store.specs.Memory.{memory};
 ghost use Rattle.matching.specs.Surveying.{Surveyed};
@@ -15,7 +16,11 @@ pub struct Scratch {
 }
 
 impl Scratch {
-    pub fn new() -> Scratch {
+    // With nothing on them.
+    pub fn new() -> Scratch
+        ensures order { items result.order ≡ [] }
+        ensures stack { items result.stack ≡ [] }
+    {
         Scratch {
             order: FixedVec::new(0),
             stack: FixedVec::new(0),
