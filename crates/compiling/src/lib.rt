@@ -1,6 +1,7 @@
 // Making the rules of a sheet ready for use on terms in nodes.
 #![tactic(auto)]
 
-mod left;
-mod right;
+mod chains;
+mod outline;
+mod planning;
 pub mod rules;

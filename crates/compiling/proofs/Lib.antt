@@ -1,0 +1,5 @@
+pub mod Pushing
+pub mod Sides
+pub mod Outlines
+pub mod Rows
+pub mod Walking
