@@ -3,3 +3,8 @@ pub mod Sides
 pub mod Outlines
 pub mod Rows
 pub mod Walking
+pub mod Checks
+pub mod Pieces
+pub mod Copies
+pub mod Variables
+pub mod Drops

@@ -4,7 +4,7 @@ use Rattle.std.specs.List.{list_any, position_or_len}
 use Rattle.std.proofs.lemmas.Bool.Decides.{nat_tests}
 use Rattle.std.proofs.lemmas.List.Sums.{prefix_len-le-length}
 use Rattle.std.proofs.lemmas.List.Recursion.{is_count_by, is_position_or_len}
-use Rattle.std.proofs.lemmas.List.{map-append, take-map, length-append}
+use Rattle.std.proofs.lemmas.List.{map-append, take-map, length-append, length-map}
 use Rattle.fixed_vec.specs.FixedVec.{items}
 use Rattle.terms.specs.declared.symbol.Symbol.TheVariants.{Variable, Instrument, Operator}
 use Rattle.terms.specs.Term.{Term, variable, instrument, apply, Terms, nil, cons, symbols, symbols_in}
@@ -40,12 +40,12 @@ mutual
   length-outline_under (apply f ts) = ap suc (length-outline_of ts)
 
 -- what is said of parts is said of their fronts
-is_front : (x : ℕ) (t : Term) → is_variable x (front t) ≡ is_variable x t
+pub is_front : (x : ℕ) (t : Term) → is_variable x (front t) ≡ is_variable x t
 is_front x (variable y) = refl
 is_front x (instrument n) = refl
 is_front x (apply f ts) = refl
 
-has_front : (x : ℕ) (ts : List Term) → has_variable x (map front ts) ≡ has_variable x ts
+pub has_front : (x : ℕ) (ts : List Term) → has_variable x (map front ts) ≡ has_variable x ts
 has_front x [] = refl
 has_front x (t ∷ ts) = λ i. is_front x t i || has_front x ts i
 
@@ -117,5 +117,5 @@ module _ (t : Term) (o : Outline) (of : Outlines t o) where
   pub dropped_outlined : (right : List Term) → dropped_from 0 (map leaf (items o.others)) right ≡ dropped_from 0 (parts_under t) right
   dropped_outlined right = ap (λ ts. dropped_from 0 ts right) leaves_under ∙ dropped_front 0 (parts_under t) right
 
-  pub others_fit : suc (length (items o.others)) ≡ symbols t
-  others_fit = ap (λ l. suc (length l)) of.others ∙ length-outline_under t
+  pub parts_outlined : length (parts_under t) ≡ length (items o.others)
+  parts_outlined = omega (arith, length-map (parts_under t) front, ap length leaves_under, length-map (items o.others) leaf)

@@ -4,6 +4,7 @@ use Rattle.fixed_vec.specs.FixedVec.{items}
 use Rattle.terms.specs.declared.symbol.Symbol.{Symbol}
 use Rattle.terms.specs.declared.symbol.Symbol.TheVariants.{Variable, Instrument, Operator}
 use Rattle.terms.specs.Term.{Term, variable, instrument, apply, Terms, nil, cons}
+use Rattle.terms.specs.Rule.{Rule}
 use Rattle.compiled.specs.declared.Piece.{Piece}
 use Rattle.compiled.specs.Symbols.{any, has_arguments}
 use Rattle.compiled.specs.Plans.{source_of, operators_under}
@@ -35,6 +36,10 @@ pub record Outlines (t : Term) (o : Outline) : Type 0 where
   pub root : o.root ≡ part_of t false
   pub others : items o.others ≡ outline_under t
   pub operators : items o.operators ≡ operators_under t
+
+pub record OutlinesRule (r : Rule) (left right : Outline) : Type 0 where
+  pub left_is : Outlines r.left left
+  pub right_is : Outlines r.right right
 
 -- a term with a symbol in front, and nothing behind it
 abbrev pub alone : Symbol → Term

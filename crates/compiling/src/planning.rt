@@ -1,10 +1,11 @@
 ghost use Rattle.std.specs.Prelude.{◌≡◌, suc, [], ◌∷◌, ◌≤◌, length, take};
 ghost use Rattle.fixed_vec.specs.FixedVec.{items};
 ghost use Rattle.terms.specs.Term.{Term};
+ghost use Rattle.terms.specs.Rule.{Rule};
 ghost use Rattle.sheet.specs.Rules.{rule_of};
 ghost use Rattle.compiled.specs.Symbols.{parts_under};
 ghost use Rattle.compiled.specs.Plans.{checks_under, pieces_under, dropped_from, copied_in, Planned};
-ghost use Rattle.compiling.specs.Outlines.{piece_for, Outlines};
+ghost use Rattle.compiling.specs.Outlines.{piece_for, Outlines, OutlinesRule};
 ghost use Rattle.compiling.specs.Compilable.{Linear, Compilable};
 
 use crate::outline::{Outline, Part};
@@ -58,7 +59,7 @@ pub fn plan_of(rule: &Stored, next: Option<usize>) -> Plan
         pieces,
         visits: right.operators,
         dropped: dropped(&left, &right),
-        copied: copied(&pieces),
+        copied: copied(pieces.as_slice()),
         before: left.plain(),
         after: right.plain(),
         next,
@@ -84,7 +85,7 @@ fn checks_of(left: &Outline) -> FixedVec<Check, 32>
 
 // A piece for each symbol of a right side behind its first.
 fn pieces_of(left: &Outline, right: &Outline) -> FixedVec<Piece, 32>
-    ensures { (t u : Term) → Outlines t left.now → Outlines u right.now → items result ≡ pieces_under (parts_under t) (u ∷ []) u }
+    ensures { (r : Rule) → OutlinesRule r left.now right.now → items result ≡ pieces_under (parts_under r.left) (r.right ∷ []) r.right }
 {
     let mut pieces = FixedVec::new(NO_PIECE);
     for (number, part) in right.others.iter().enumerate() {
@@ -98,7 +99,7 @@ fn pieces_of(left: &Outline, right: &Outline) -> FixedVec<Piece, 32>
 // The piece for a symbol of a right side, behind the first n.
 fn piece_of(left: &Outline, right: &Outline, part: &Part, n: usize) -> Piece
     requires { n ≤ suc (length (items right.now.others)) }
-    ensures { (t u : Term) → Outlines t left.now → Outlines u right.now → result ≡ piece_for (parts_under t) (take n (u ∷ parts_under u)) part.now }
+    ensures { (r : Rule) → OutlinesRule r left.now right.now → result ≡ piece_for (parts_under r.left) (take n (r.right ∷ parts_under r.right)) part.now }
 {
     let source = match part.symbol {
         Symbol::Variable(x) => {
@@ -119,8 +120,8 @@ fn piece_of(left: &Outline, right: &Outline, part: &Part, n: usize) -> Piece
 
 // The numbers at which a left side has variables that the right side does not have.
 fn dropped(left: &Outline, right: &Outline) -> FixedVec<usize, 8>
-    requires { (t : Term) × Outlines t left.now × Linear t }
-    ensures { (t u : Term) → Outlines t left.now → Outlines u right.now → items result ≡ dropped_from 0 (parts_under t) (u ∷ parts_under u) }
+    requires { (r : Rule) × OutlinesRule r left.now right.now × Linear r.left }
+    ensures { (r : Rule) → OutlinesRule r left.now right.now → items result ≡ dropped_from 0 (parts_under r.left) (r.right ∷ parts_under r.right) }
 {
     let mut dropped = FixedVec::new(0);
     for (number, part) in left.others.iter().enumerate() {
@@ -134,11 +135,12 @@ fn dropped(left: &Outline, right: &Outline) -> FixedVec<usize, 8>
 }
 
 // The numbers from which pieces are copied.
-fn copied(pieces: &FixedVec<Piece, 32>) -> FixedVec<usize, 32>
-    ensures { items result ≡ copied_in (items pieces.now) }
+fn copied(pieces: &[Piece]) -> FixedVec<usize, 32>
+    requires { length pieces.now ≤ 32 }
+    ensures { items result ≡ copied_in pieces.now }
 {
     let mut copied = FixedVec::new(0);
-    for piece in pieces.iter() {
+    for piece in pieces {
         if let Source::Copied(number) = piece.source {
             copied.push(number).unwrap();
         }
