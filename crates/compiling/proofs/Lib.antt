@@ -8,3 +8,5 @@ pub mod Pieces
 pub mod Copies
 pub mod Variables
 pub mod Drops
+pub mod Lawful
+pub mod Chaining

@@ -4,6 +4,7 @@ use Rattle.terms.specs.declared.symbol.Symbol.{Symbol}
 use Rattle.terms.specs.declared.symbol.Symbol.TheVariants.{Variable, Instrument, Operator}
 use Rattle.terms.specs.Term.{Term, variable, instrument, apply, Terms, nil, cons}
 use Rattle.terms.specs.View.{Answers, Stands, StandFrom}
+use Rattle.compiled.specs.Compiled.{BeginsWith}
 use Rattle.compiled.specs.Symbols.{any, has_arguments}
 use Rattle.compiling.specs.declared.outline.Part.{Part}
 use Rattle.compiling.specs.Outlines.{first_of, part_of}
@@ -23,6 +24,11 @@ module _ (v : Answers) (p : ℕ) where
   first_stands (variable x) h = h.0
   first_stands (instrument n) h = h.0
   first_stands (apply f ts) h = h.0
+
+  pub first_begins : (f : ℕ) (t : Term) → v.symbol p ≡ Some (Operator f) → Stands v p t → BeginsWith f t
+  first_begins f (variable x) e h = let z : ⊥ = cc (h.0, e) in absurd z
+  first_begins f (instrument n) e h = let z : ⊥ = cc (h.0, e) in absurd z
+  first_begins f (apply g ts) e h = cc (h.0, e)
 
   has_stands : (t : Term) → Stands v p t → is_some (v.argument p 0) ≡ has_arguments t
   has_stands (variable x) h = ap is_some h.1
