@@ -1,5 +1,5 @@
 -- Chaining the rules from the last on to the first.
-use Rattle.std.proofs.Common.{◌≡◌, ℕ, zero, suc, ◌<◌, ◌≤◌, List, length, replicate, get_or, set, Some, None, Option, refl, sym, subst, ap, ◌∙◌, inl, inr, arith}
+use Rattle.std.proofs.Common.{◌≡◌, ℕ, zero, suc, ◌<◌, ◌≤◌, List, length, replicate, get_or, set, Some, None, Option, refl, sym, subst, ◌∙◌, inl, inr, arith}
 use Rattle.std.proofs.lemmas.Bool.{cases_eq}
 use Rattle.std.proofs.lemmas.List.{get_or-set_same, get_or-set_other}
 use Rattle.terms.specs.Term.{Term, variable, instrument, apply}
@@ -55,10 +55,10 @@ module _ (rules : List Rule) where
       ];
       nexts = λ i g a b h. elim (cases_eq i k) [
         | inl e ↦
-          let same = begins_once f g (left_of rules k) begins (subst (λ n. BeginsWith g (left_of rules n)) e h) in
-          subst (λ n. FirstFrom rules g (suc n) (get_or (set nexts k (get_or heads f None)) n None)) (sym e) (
+            let same = begins_once f g (left_of rules k) begins (subst (λ n. BeginsWith g (left_of rules n)) e h) in
+            subst (λ n. FirstFrom rules g (suc n) (get_or (set nexts k (get_or heads f None)) n None)) (sym e) (
             subst (FirstFrom rules g (suc k)) (sym (get_or-set_same nexts k (get_or heads f None) None in_nexts)) (subst (λ n. FirstFrom rules n (suc k) (get_or heads f None)) same (later.heads f small))
-          )
+            )
         | inr ne ↦ subst (FirstFrom rules g (suc i)) (sym (get_or-set_other nexts k i (get_or heads f None) None ne)) (later.nexts i g (omega (arith, ne)) b h)
       ];
     }

@@ -1,5 +1,5 @@
 -- The numbers at which variables stand that the right side does not have.
-use Rattle.std.proofs.Common.{◌≡◌, ℕ, zero, suc, ◌+◌, ◌<◌, ◌≤◌, Bool, true, false, cond, List, [], ◌∷◌, ◌++◌, length, map, take, drop, get_or, refl, sym, ap, ◌∙◌, arith}
+use Rattle.std.proofs.Common.{◌≡◌, ℕ, suc, ◌+◌, ◌<◌, ◌≤◌, Bool, true, false, cond, List, [], ◌∷◌, ◌++◌, length, map, take, drop, get_or, refl, sym, ap, ◌∙◌, arith}
 use Rattle.std.proofs.lemmas.List.{append-nil, map-append, map_more, length-append, length-map, length-take, take_all, take-append-drop}
 use Rattle.fixed_vec.specs.FixedVec.{items}
 use Rattle.terms.specs.declared.symbol.Symbol.{Symbol}

@@ -10,3 +10,4 @@ pub mod Variables
 pub mod Drops
 pub mod Lawful
 pub mod Chaining
+pub mod Compiling

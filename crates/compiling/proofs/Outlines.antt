@@ -1,5 +1,5 @@
 -- What an outline says of the parts of its term.
-use Rattle.std.proofs.Common.{◌≡◌, ℕ, zero, suc, ◌+◌, ◌-◌, ◌<◌, ◌≤◌, Bool, true, false, cond, ◌||◌, List, [], ◌∷◌, ◌++◌, length, map, take, count_by, is_some, position, unwrap_or, not, refl, sym, ap, ◌∙◌, arith}
+use Rattle.std.proofs.Common.{◌≡◌, ℕ, zero, suc, ◌+◌, ◌-◌, ◌<◌, Bool, true, false, cond, ◌||◌, List, [], ◌∷◌, ◌++◌, length, map, take, count_by, is_some, position, unwrap_or, not, refl, sym, ap, ◌∙◌, arith}
 use Rattle.std.specs.List.{list_any, position_or_len}
 use Rattle.std.proofs.lemmas.Bool.Decides.{nat_tests}
 use Rattle.std.proofs.lemmas.List.Sums.{prefix_len-le-length}
@@ -12,7 +12,7 @@ use Rattle.compiled.specs.Symbols.{wanted, parts_of, parts_under, is_variable, h
 use Rattle.compiled.specs.Plans.{dropped_from}
 use Rattle.compiling.specs.declared.outline.Part.{Part}
 use Rattle.compiling.specs.declared.outline.Outline.{Outline}
-use Rattle.compiling.specs.Outlines.{first_of, part_of, outline_of, outline_under, Outlines, alone, leaf}
+use Rattle.compiling.specs.Outlines.{first_of, outline_of, outline_under, Outlines, alone, leaf}
 
 -- a term without what is behind its first symbol
 abbrev pub front : Term → Term

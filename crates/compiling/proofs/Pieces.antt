@@ -1,12 +1,11 @@
 -- The pieces of a right side.
-use Rattle.std.proofs.Common.{◌≡◌, ℕ, suc, ◌+◌, ◌<◌, ◌≤◌, Bool, true, false, cond, ◌||◌, List, [], ◌∷◌, ◌++◌, length, map, take, get_or, refl, sym, ap, ◌∙◌, add-one, append_assoc, arith}
+use Rattle.std.proofs.Common.{◌≡◌, ℕ, ◌+◌, ◌<◌, ◌≤◌, Bool, true, false, cond, ◌||◌, List, [], ◌∷◌, ◌++◌, length, map, take, get_or, refl, sym, ap, ◌∙◌, add-one, append_assoc, arith}
 use Rattle.std.proofs.lemmas.List.{append-nil, take-map, take_more, take_all}
 use Rattle.fixed_vec.specs.FixedVec.{items}
 use Rattle.terms.specs.Term.{Term, variable, instrument, apply, Terms, nil, cons}
 use Rattle.terms.specs.Rule.{Rule}
 use Rattle.compiled.specs.declared.Piece.{Piece}
-use Rattle.compiled.specs.declared.Source.{Source}
-use Rattle.compiled.specs.declared.Source.TheVariants.{Made, Moved, Copied}
+use Rattle.compiled.specs.declared.Source.TheVariants.{Moved, Copied}
 use Rattle.compiled.specs.Symbols.{any, has_arguments, parts_under, is_variable, has_variable, home}
 use Rattle.compiled.specs.Plans.{source_of, pieces_of, pieces_under}
 use Rattle.compiling.specs.declared.outline.Part.{Part}
@@ -68,7 +67,7 @@ mutual
   pieces_outlined_of left b c h (cons t us) =
       let one = alike_more b c (t ∷ []) (front t ∷ []) h (alike_one t) in
       let all : Alike (b ++ t ∷ parts_under t) ((c ++ front t ∷ []) ++ map leaf (outline_under t)) =
-          λ x. ap (has_variable x) (sym (append_assoc b (t ∷ []) (parts_under t))) ∙ alike_more (b ++ t ∷ []) (c ++ front t ∷ []) (parts_under t) (map leaf (outline_under t)) one (alike_under t) x in
+      λ x. ap (has_variable x) (sym (append_assoc b (t ∷ []) (parts_under t))) ∙ alike_more (b ++ t ∷ []) (c ++ front t ∷ []) (parts_under t) (map leaf (outline_under t)) one (alike_under t) x in
       let first = source_front left c t ∙ source_alike left b c h t in
       ap (λ l. piece_for left c (part_of t (any us)) ∷ l) (along-append left (c ++ front t ∷ []) (outline_under t) (outline_of us))
       ∙ (λ i. record { source = first i; has_first = has_arguments t; has_next = any us } ∷ (pieces_outlined left (b ++ t ∷ []) (c ++ front t ∷ []) one t i ++ pieces_outlined_of left (b ++ t ∷ parts_under t) ((c ++ front t ∷ []) ++ map leaf (outline_under t)) all us i))
@@ -89,7 +88,7 @@ module _ (r : Rule) (left right : Outline) (of : OutlinesRule r left right) wher
   first_alike : (n : ℕ) → Alike (take (n + 1) (u ∷ parts_under u)) (front u ∷ map leaf (take n (items right.others)))
   first_alike n x =
       let others : map front (take n (parts_under u)) ≡ map leaf (take n (items right.others)) =
-          sym (take-map front n (parts_under u)) ∙ ap (take n) (fronts_under u) ∙ take-map leaf n (outline_under u) ∙ ap (λ ps. map leaf (take n ps)) (sym of.right_is.others) in
+      sym (take-map front n (parts_under u)) ∙ ap (take n) (fronts_under u) ∙ take-map leaf n (outline_under u) ∙ ap (λ ps. map leaf (take n ps)) (sym of.right_is.others) in
       rw add-one (λ i. sym (is_front x u) i || (sym (has_front x (take n (parts_under u))) ∙ ap (has_variable x) others) i)
 
   pub pieces_more : (n : ℕ) (d : Part) (ps : List Part) → ps ≡ items right.others → n < length ps → (made more : List Piece) (p : Piece) → made ≡ pieces_along l (front u ∷ []) (take n (items right.others)) → more ≡ made ++ p ∷ [] → p ≡ piece_for l (take (n + 1) (u ∷ parts_under u)) (get_or ps n d) → more ≡ pieces_along l (front u ∷ []) (take (n + 1) (items right.others))

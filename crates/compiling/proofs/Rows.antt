@@ -1,13 +1,10 @@
 -- What a view answers at the place of a term.
-use Rattle.std.proofs.Common.{◌≡◌, ℕ, suc, Bool, Some, None, is_some, refl, sym, ap, subst, ◌∙◌}
-use Rattle.terms.specs.declared.symbol.Symbol.{Symbol}
-use Rattle.terms.specs.declared.symbol.Symbol.TheVariants.{Variable, Instrument, Operator}
+use Rattle.std.proofs.Common.{◌≡◌, ℕ, suc, Some, None, is_some, refl, sym, ap, subst, ◌∙◌}
+use Rattle.terms.specs.declared.symbol.Symbol.TheVariants.{Operator}
 use Rattle.terms.specs.Term.{Term, variable, instrument, apply, Terms, nil, cons}
 use Rattle.terms.specs.View.{Answers, Stands, StandFrom}
 use Rattle.compiled.specs.Compiled.{BeginsWith}
-use Rattle.compiled.specs.Symbols.{any, has_arguments}
-use Rattle.compiling.specs.declared.outline.Part.{Part}
-use Rattle.compiling.specs.Outlines.{first_of, part_of}
+use Rattle.compiled.specs.Symbols.{any}
 use Rattle.compiling.specs.Walking.{Occupied}
 
 module _ (v : Answers) (p : ℕ) where
@@ -20,20 +17,10 @@ module _ (v : Answers) (p : ℕ) where
   any_stands k nil h = ap is_some h
   any_stands k (cons t us) h = ap is_some h.1
 
-  first_stands : (t : Term) → Stands v p t → v.symbol p ≡ Some (first_of t)
-  first_stands (variable x) h = h.0
-  first_stands (instrument n) h = h.0
-  first_stands (apply f ts) h = h.0
-
   pub first_begins : (f : ℕ) (t : Term) → v.symbol p ≡ Some (Operator f) → Stands v p t → BeginsWith f t
   first_begins f (variable x) e h = let z : ⊥ = cc (h.0, e) in absurd z
   first_begins f (instrument n) e h = let z : ⊥ = cc (h.0, e) in absurd z
   first_begins f (apply g ts) e h = cc (h.0, e)
-
-  has_stands : (t : Term) → Stands v p t → is_some (v.argument p 0) ≡ has_arguments t
-  has_stands (variable x) h = ap is_some h.1
-  has_stands (instrument n) h = ap is_some h.1
-  has_stands (apply f ts) h = any_stands 0 ts h.1
 
   -- the argument that a view gives is one of the terms that stand there
   pub opened : (k q : ℕ) (ts : Terms) → v.argument p k ≡ Some q → StandFrom v p k ts → (t : Term) × (us : Terms) × (ts ≡ cons t us) × Stands v q t × StandFrom v p (suc k) us
@@ -43,9 +30,3 @@ module _ (v : Answers) (p : ℕ) where
   pub closed : (k : ℕ) (ts : Terms) → v.argument p k ≡ None → StandFrom v p k ts → ts ≡ nil
   closed k nil e h = refl
   closed k (cons t us) e (r, a, h, rest) = let z : ⊥ = cc (a, e) in absurd z
-
-  -- what is found of a part
-  pub part_stands : (s : Symbol) (first next : Bool) → v.symbol p ≡ Some s → first ≡ is_some (v.argument p 0) → (t : Term) → Stands v p t → record { symbol = s; has_first = first; has_next = next } ≡ part_of t next
-  part_stands s first next e a t h =
-      let same : s ≡ first_of t = cc (first_stands t h) in
-      λ i. record { symbol = same i; has_first = (a ∙ has_stands t h) i; has_next = next }

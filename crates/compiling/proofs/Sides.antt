@@ -1,5 +1,5 @@
 -- What is known of each side of a rule.
-use Rattle.std.proofs.Common.{ℕ, ◌≤◌, List, length, take, arith}
+use Rattle.std.proofs.Common.{◌≤◌, arith}
 use Rattle.std.proofs.lemmas.List.{length-take}
 use Rattle.terms.specs.Term.{Term, variable, instrument, apply, Terms, nil, cons, symbols}
 use Rattle.terms.proofs.Laying.{Narrow as Low, AllNarrow as AllLow}

@@ -1,6 +1,6 @@
 -- A term whose variables are among eight, and none of them twice, has at most eight of them.
-use Rattle.std.proofs.Common.{◌≡◌, ℕ, zero, suc, ◌+◌, ◌<◌, ◌≤◌, cond, eqb, List, [], ◌∷◌, ◌++◌, refl, ap, ◌∙◌, inl, inr, arith}
-use Rattle.std.proofs.lemmas.Bool.{cases_lt, cases_eq, cond-true, cond-false, eq-eqb, ne_eqb}
+use Rattle.std.proofs.Common.{◌≡◌, ℕ, zero, suc, ◌+◌, ◌<◌, ◌≤◌, cond, eqb, List, [], ◌∷◌, ◌++◌, refl, inl, inr, arith}
+use Rattle.std.proofs.lemmas.Bool.{cases_lt, cond-true, cond-false, eq-eqb, ne_eqb}
 use Rattle.terms.specs.Term.{Term, variable, instrument, apply, Terms, nil, cons}
 use Rattle.terms.specs.Substitution.{occurrences, occurrences_in}
 use Rattle.compiled.specs.Symbols.{parts_of, parts_under, is_variable}

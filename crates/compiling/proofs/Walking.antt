@@ -1,9 +1,9 @@
 -- Going through the terms of a side in reading order.
-use Rattle.std.proofs.Common.{◌≡◌, ℕ, suc, ◌+◌, ◌-◌, ◌<◌, ◌≤◌, Bool, false, List, [], ◌∷◌, ◌++◌, length, Some, None, is_some, refl, sym, ap, subst, ◌∙◌, inl, inr, add-one, append_assoc, arith}
+use Rattle.std.proofs.Common.{◌≡◌, ℕ, suc, ◌+◌, ◌-◌, ◌<◌, ◌≤◌, Bool, false, [], ◌∷◌, ◌++◌, length, Some, None, is_some, refl, sym, ap, ◌∙◌, inl, inr, add-one, append_assoc, arith}
 use Rattle.std.proofs.lemmas.Bool.{cases_lt}
 use Rattle.std.proofs.lemmas.List.{length-append, append-nil}
 use Rattle.fixed_vec.specs.FixedVec.{items}
-use Rattle.terms.specs.declared.symbol.Symbol.TheVariants.{Variable, Instrument, Operator}
+use Rattle.terms.specs.declared.symbol.Symbol.TheVariants.{Operator}
 use Rattle.terms.specs.Term.{Term, variable, instrument, apply, Terms, nil, cons, symbols, symbols_in}
 use Rattle.terms.specs.Rule.{levels, levels_in}
 use Rattle.terms.specs.View.{Answers, Stands, StandFrom}
@@ -14,7 +14,7 @@ use Rattle.compiling.specs.declared.outline.Outline.{Outline}
 use Rattle.compiling.specs.Outlines.{part_of, outline_of, outline_under, Outlines}
 use Rattle.compiling.specs.Walking.{Room, RoomForTerm, RoomForRow, AddsTerm, AddsRow}
 use Rattle.compiling.proofs.Rows.{any_stands, opened, closed}
-use Rattle.compiling.proofs.Outlines.{length-outline_of, length-outline_under}
+use Rattle.compiling.proofs.Outlines.{length-outline_under}
 
 -- the arguments of a term
 abbrev pub under : Term → Terms

@@ -116,9 +116,7 @@ impl Outline {
     {
         n > 0
             && (self.root.is_variable(x)
-                || self.others[..n - 1]
-                    .iter()
-                    .any(|part| part.is_variable(x)))
+                || self.others[..n - 1].iter().any(|part| part.is_variable(x)))
     }
 
     // The number among the others at which a variable stands first, or how many they are.

@@ -1,4 +1,4 @@
-use Rattle.std.proofs.Common.{◌<◌, arith}
+use Rattle.std.proofs.Common.{arith}
 use Rattle.compiled.proofs.CompiledRules.first.Goals as goal
 
 pub returns-then-at-ge32 : goal.returns-then-at-ge32

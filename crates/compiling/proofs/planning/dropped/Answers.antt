@@ -27,14 +27,14 @@ loop-number-preserved c = λ r of.
     let within = c.loop-number-test.true in
     elim c.match-part.branch [
       | in-Variable+then-not-has_variable w ↦
-        ap items w.dropped-is
-        ∙ IfOk-at_ok (λ _. _) w.unwrap.ensures w.push.ensures.last
-        ∙ ap (λ ks. ks ++ i ∷ []) before
-        ∙ sym (one_dropped us _ _ same i _ within _ w.in-Variable.is (sym (seen r _ _ of _ _ w.len.ensures.value) ∙ sym (w.has_variable.ensures r.right of.right_is) ∙ w.if-not-has_variable.true))
+          ap items w.dropped-is
+          ∙ IfOk-at_ok (λ _. _) w.unwrap.ensures w.push.ensures.last
+          ∙ ap (λ ks. ks ++ i ∷ []) before
+          ∙ sym (one_dropped us _ _ same i _ within _ w.in-Variable.is (sym (seen r _ _ of _ _ w.len.ensures.value) ∙ sym (w.has_variable.ensures r.right of.right_is) ∙ w.if-not-has_variable.true))
       | in-Variable+else-not-has_variable w ↦
-        ap items w.dropped-is
-        ∙ before
-        ∙ sym (one_kept us _ _ same i _ within _ w.in-Variable.is (sym (seen r _ _ of _ _ w.len.ensures.value) ∙ sym (w.has_variable.ensures r.right of.right_is) ∙ w.if-not-has_variable.false))
+          ap items w.dropped-is
+          ∙ before
+          ∙ sym (one_kept us _ _ same i _ within _ w.in-Variable.is (sym (seen r _ _ of _ _ w.len.ensures.value) ∙ sym (w.has_variable.ensures r.right of.right_is) ∙ w.if-not-has_variable.false))
       | in_default w ↦ ap items w.dropped-is ∙ before ∙ sym (one_plain us _ _ same i _ within w.in_default.not-Variable)
     ]
 

@@ -1,7 +1,6 @@
 use Rattle.std.proofs.Common.{◌+◌, length, ap, ◌∙◌, arith}
 use Rattle.std.proofs.lemmas.List.{length_push}
 use Rattle.std.proofs.lemmas.Result.{IfOk-at_ok}
-use Rattle.fixed_vec.specs.FixedVec.{items}
 use Rattle.compiling.proofs.Pieces.{pieces_more, pieces_whole}
 use Rattle.compiling.proofs.planning.pieces_of.Goals as goal
 

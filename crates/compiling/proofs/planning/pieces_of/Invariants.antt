@@ -1,4 +1,4 @@
-use Rattle.std.proofs.Common.{◌≡◌, ◌∷◌, [], length, map, take}
+use Rattle.std.proofs.Common.{◌≡◌, ◌∷◌, [], length, take}
 use Rattle.fixed_vec.specs.FixedVec.{items}
 use Rattle.terms.specs.Rule.{Rule}
 use Rattle.compiled.specs.Symbols.{parts_under}
@@ -10,5 +10,5 @@ use Rattle.compiling.proofs.planning.pieces_of.Given as goal
 abbrev pub invariant-loop-number : goal.invariant-loop-number
 invariant-loop-number l = record {
   many : length (items l.pieces) ≡ l.number;
-  made : (r : Rule) → OutlinesRule r l.left l.right → items l.pieces ≡ pieces_along (parts_under r.left) (front r.right ∷ []) (take l.number (items l.right.others))
+  made : (r : Rule) → OutlinesRule r l.left l.right → items l.pieces ≡ pieces_along (parts_under r.left) (front r.right ∷ []) (take l.number (items l.right.others));
 }

@@ -2,7 +2,6 @@ use Rattle.std.proofs.Common.{◌≡◌, suc, false, ◌∷◌, [], subst, refl,
 use Rattle.terms.specs.Term.{Term, variable, instrument, apply}
 use Rattle.terms.specs.Rule.{OperatorFirst}
 use Rattle.sheet.specs.Rules.{rule_of}
-use Rattle.compiled.specs.declared.Piece.{Piece}
 use Rattle.compiled.specs.Symbols.{has_arguments, parts_under, plain}
 use Rattle.compiled.specs.Plans.{source_of, copied_in}
 use Rattle.compiling.specs.declared.outline.Part.{Part}

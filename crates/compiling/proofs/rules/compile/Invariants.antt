@@ -1,7 +1,7 @@
-use Rattle.std.proofs.Common.{◌≡◌, ℕ, ◌+◌, ◌-◌, ◌*◌, ◌<◌, ◌≤◌, length}
+use Rattle.fixed_vec.specs.FixedVec.{items}
 use Rattle.sheet.specs.Sheet.{rules_of}
-use Rattle.compiled.specs.Compiled.{IsCompiled}
+use Rattle.compiling.proofs.Compiling.{PlansOf}
 use Rattle.compiling.proofs.rules.compile.Given as goal
 
 abbrev pub invariant-loop-i : goal.invariant-loop-i
-invariant-loop-i l = ?
+invariant-loop-i l = PlansOf (rules_of l.sheet) l.chains.nexts (items l.plans) l.i

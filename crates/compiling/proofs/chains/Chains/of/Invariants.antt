@@ -7,5 +7,5 @@ abbrev pub invariant-loop-rule : goal.invariant-loop-rule
 invariant-loop-rule l = record {
   all_heads : length l.heads ≡ 32;
   all_nexts : length l.nexts ≡ 32;
-  chained : ChainedFrom (rules_of l.sheet) l.rule (record { heads = l.heads; nexts = l.nexts })
+  chained : ChainedFrom (rules_of l.sheet) l.rule (record { heads = l.heads; nexts = l.nexts });
 }

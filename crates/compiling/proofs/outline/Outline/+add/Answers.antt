@@ -1,4 +1,4 @@
-use Rattle.std.proofs.Common.{[], ◌∷◌, ◌++◌, Some, is_some, refl, sym, ap, ◌∙◌, arith}
+use Rattle.std.proofs.Common.{[], ◌∷◌, ◌++◌, is_some, refl, sym, ap, ◌∙◌, arith}
 use Rattle.fixed_vec.specs.FixedVec.{items}
 use Rattle.std.proofs.lemmas.Result.{IfOk-at_ok}
 use Rattle.compiling.proofs.Pushing.{has_room}

@@ -1,4 +1,4 @@
-use Rattle.std.proofs.Common.{rules, tests, ◌≡◌, ℕ, length, position, unwrap_or, ◌∙◌}
+use Rattle.std.proofs.Common.{rules, tests, ◌≡◌, position, unwrap_or, ◌∙◌}
 use Rattle.std.proofs.lemmas.Iterator.{YieldsList-from_slice}
 use Rattle.std.proofs.lemmas.Iterator.Search.{position_from_yields_List}
 use Rattle.fixed_vec.specs.FixedVec.{items}
@@ -14,5 +14,5 @@ returns c =
     let x = c.args.x in
     let test = λ (p : Part). is_variable x (leaf p) in
     let found : c.position.result ≡ position test (items o.others) =
-        position_from_yields_List test _ _ c.position.result c.position.ensures.ran (YieldsList-from_slice (items o.others) cc) (λ q b f k. search (rules, tests)) in
+    position_from_yields_List test _ _ c.position.result c.position.ensures.ran (YieldsList-from_slice (items o.others) cc) (λ q b f k. search (rules, tests)) in
     λ t of. c.unwrap_or.ensures ∙ (λ i. unwrap_or (found i) (c.len.ensures.value i)) ∙ found_or_len test (items o.others) ∙ home_outlined t o of x
