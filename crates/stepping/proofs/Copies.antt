@@ -28,7 +28,7 @@ few_nodes : (m : Memory) → length m.nodes ≤ most_symbols → length m.nodes 
 few_nodes m few = let n = small (length m.nodes) few in omega arith
 
 -- an item is pushed where there is room
-pushed_on : (r : Result (Unit {0}) Full) (n : ℕ) (before : List ℕ) (x : ℕ) (after : List ℕ) → length before < n → Added n before x after r → (result_ok r ≡ Some tt) × (after ≡ x ∷ before)
+pub pushed_on : (r : Result (Unit {0}) Full) (n : ℕ) (before : List ℕ) (x : ℕ) (after : List ℕ) → length before < n → Added n before x after r → (result_ok r ≡ Some tt) × (after ≡ x ∷ before)
 pushed_on (Ok u) n before x after short a = (refl, a)
 pushed_on (Err e) n before x after short a = absurd (let z : ⊥ = omega (arith, a.1) in z)
 
@@ -213,11 +213,11 @@ copied_skips : (m : Memory) (h : Held) (others : List Placed) (stack : List ℕ)
 copied_skips m h others stack qs rs same c = c
 copied_skips m h others stack qs rs (one s) c = copied_skips m h others stack qs (none ∷ rs) s (record { rows = none ∷ c.rows; gone = c.gone; same_rows = (tt, c.same_rows); stacked = c.stacked; work = with_none m h (c.rows ++ others) c.gone c.work })
 
-no_items : (l : List ℕ) → length l ≡ 0 → l ≡ []
+pub no_items : {A : Type 0} (l : List A) → length l ≡ 0 → l ≡ []
 no_items [] e = refl
 no_items (x ∷ l) e = absurd (let z : ⊥ = omega arith in z)
 
-popped_link : (q : Placed) (before after : List ℕ) (o : Option ℕ) → before ≡ links (q ∷ []) → Removed before after o → o ≡ link q
+pub popped_link : (q : Placed) (before after : List ℕ) (o : Option ℕ) → before ≡ links (q ∷ []) → Removed before after o → o ≡ link q
 popped_link none before after None e p = refl
 popped_link none before after (Some x) e p = absurd (let z : ⊥ = cc in z)
 popped_link (at i s ks us) before after None e p = absurd (let z : ⊥ = cc in z)

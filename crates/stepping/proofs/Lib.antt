@@ -6,3 +6,4 @@ pub mod Dropping
 pub mod Forests
 pub mod Pieces
 pub mod Copies
+pub mod Buildings

@@ -38,12 +38,12 @@ abbrev pub pieces_all : List Term → List Term → List Terms → List Piece
 pieces_all left before [] = []
 pieces_all left before (ts ∷ pss) = pieces_of left before ts ++ pieces_all left (before ++ parts_of ts) pss
 
-pieces_term : (left before : List Term) (t : Term) → pieces_under left before t ≡ pieces_of left before (arguments_of t)
+pub pieces_term : (left before : List Term) (t : Term) → pieces_under left before t ≡ pieces_of left before (arguments_of t)
 pieces_term left before (variable x) = refl
 pieces_term left before (instrument n) = refl
 pieces_term left before (apply f ts) = refl
 
-parts_term : (t : Term) → parts_under t ≡ parts_of (arguments_of t)
+pub parts_term : (t : Term) → parts_under t ≡ parts_of (arguments_of t)
 parts_term (variable x) = refl
 parts_term (instrument n) = refl
 parts_term (apply f ts) = refl
@@ -84,7 +84,7 @@ abbrev pub occurrences_all : ℕ → List Terms → ℕ
 occurrences_all x [] = 0
 occurrences_all x (ts ∷ pss) = occurrences_in x ts + occurrences_all x pss
 
-occurs_under : (x : ℕ) (t : Term) → occurrences_in x (arguments_of t) ≤ occurrences x t
+pub occurs_under : (x : ℕ) (t : Term) → occurrences_in x (arguments_of t) ≤ occurrences x t
 occurs_under x (variable y) = omega arith
 occurs_under x (instrument n) = omega arith
 occurs_under x (apply f ts) = omega arith
@@ -110,7 +110,7 @@ abbrev pub NarrowRows : List Terms → Type 0
 NarrowRows [] = Unit {0}
 NarrowRows (ts ∷ pss) = AllNarrow ts × NarrowRows pss
 
-narrow_under : (t : Term) → Narrow t → AllNarrow (arguments_of t)
+pub narrow_under : (t : Term) → Narrow t → AllNarrow (arguments_of t)
 narrow_under (variable x) n = tt
 narrow_under (instrument k) n = tt
 narrow_under (apply f ts) n = n.1
