@@ -37,7 +37,7 @@ use Rattle.stepping.proofs.Copies.{pushed_on, popped_link, no_items}
 pub record Ready (p : Plan) (rule : Rule) (places : List ℕ) (kp : Placed) (kept : List Placed) (v : Bindings) : Type 0 where
   pub beside : Beside kp (parts_under rule.left) places kept v
   pub one : (x : ℕ) → binds x v ≤ 1
-  pub inside : (x : ℕ) → 1 ≤ occurrences_in x (arguments_of rule.right) → has_variable x (parts_under rule.left) ≡ true
+  pub inside : (x : ℕ) → 1 ≤ occurrences x rule.right → has_variable x (parts_under rule.left) ≡ true
   pub narrow : AllNarrow (arguments_of rule.right)
   pub pieces : items p.pieces ≡ pieces_all (parts_under rule.left) (rule.right ∷ []) (arguments_of rule.right ∷ [])
   pub many : length (items p.pieces) ≡ length (parts_of (arguments_of rule.right))
@@ -51,7 +51,7 @@ pub ready : (p : Plan) (sig : Sig) (rule : Rule) (places : List ℕ) (kp : Place
 ready p sig rule places kp kept v r d e = record {
   beside = subst (λ l. Beside kp l places kept v) (sym (parts_term rule.left)) (peeled_beside e);
   one = λ x. let b = peels_binds x (arguments_of rule.left ∷ []) (kp ∷ []) places kept v e in omega (arith, r.linear x, operator_occurs x rule.left r.operator_first);
-  inside = λ x o. let u = occurs_under x rule.right in let b = r.bound x (omega arith) in subst (λ l. has_variable x l ≡ true) (sym (parts_term rule.left)) (occurs_in x (arguments_of rule.left) (omega (arith, operator_occurs x rule.left r.operator_first)));
+  inside = λ x o. let b = r.bound x o in subst (λ l. has_variable x l ≡ true) (sym (parts_term rule.left)) (occurs_in x (arguments_of rule.left) (omega (arith, operator_occurs x rule.left r.operator_first)));
   narrow = narrow_under rule.right d.narrow;
   pieces = d.pieces ∙ pieces_term (parts_under rule.left) (rule.right ∷ []) rule.right ∙ sym (append-nil (pieces_of (parts_under rule.left) (rule.right ∷ []) (arguments_of rule.right)));
   many = ap length d.pieces ∙ as_many_under (parts_under rule.left) (rule.right ∷ []) rule.right ∙ ap length (parts_term rule.right);
@@ -151,7 +151,7 @@ module _ (p : Plan) (rule : Rule) (places : List ℕ) (kp : Placed) (kept : List
                 let source = ap (λ (p : Piece). p.source) piece_is in
                 let put = put_piece (parts_under rule.left) rule.right places kept v kp a.beside a.one (no_variable rule.right (omega arith)) h m k l.earlier l.later q c forest ps rs f.gone first next r (sym t₃.0) (sym t₄.0) (omega arith) l.term (record {
                   work = subst (λ bs. Work m h (q ∷ c ∷ (forest ++ rows_in (rule.right ∷ bs) v kept)) f.gone) l.is wk;
-                  inside = λ y e. a.inside y (read_has y (arguments_of rule.right) b.earlier b.rows b.read (ap (has_variable y) l.is ∙ e));
+                  inside = λ y e. a.inside y (let o = read_has y (arguments_of rule.right) b.earlier b.rows b.read (ap (has_variable y) l.is ∙ e) in let u = occurs_under y rule.right in omega arith);
                   room = subst (λ bs. weights v bs ≤ m.free + size_all (rows_in (rule.right ∷ bs) v kept)) l.is b.room;
                 }) y z narrow (subst (λ s. MadeFrom m s first next places k r) source piece) in
                 record {

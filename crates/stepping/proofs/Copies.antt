@@ -24,7 +24,7 @@ use Rattle.stepping.specs.Copying.{Taken, Repeated, Repeats, Copied}
 use Rattle.stepping.proofs.Reading.{Skips, same, one}
 use Rattle.stepping.proofs.Forests.{taken_link, links_shorter}
 
-few_nodes : (m : Memory) → length m.nodes ≤ most_symbols → length m.nodes ≤ 65536
+pub few_nodes : (m : Memory) → length m.nodes ≤ most_symbols → length m.nodes ≤ 65536
 few_nodes m few = let n = small (length m.nodes) few in omega arith
 
 -- an item is pushed where there is room

@@ -7,3 +7,4 @@ pub mod Forests
 pub mod Pieces
 pub mod Copies
 pub mod Buildings
+pub mod Steps
