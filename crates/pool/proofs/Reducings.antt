@@ -23,7 +23,7 @@ use Rattle.compiled.specs.declared.CompiledRules.{CompiledRules}
 use Rattle.compiled.specs.Compiled.{IsCompiled}
 use Rattle.engine.specs.declared.reduce.Reduced.{Reduced}
 use Rattle.engine.specs.Reducing.{answered, Reduces}
-use Rattle.pool.specs.Reducing.{FromRules, ReducedFrom, ReducesHeld}
+use Rattle.pool.specs.Reducing.{ReducedFrom, ReducesHeld}
 
 stop_discrete : Discrete Stop
 stop_discrete finished finished = yes refl

@@ -1,24 +1,13 @@
 -- What reducing a held term answers, and what is held then.
 use Rattle.std.specs.Prelude.{◌≡◌, ℕ, ◌+◌, ◌==◌, cond, List, Some, None, Option}
 use Rattle.terms.specs.Term.{Term, symbols}
-use Rattle.terms.specs.Signature.{Sig}
 use Rattle.terms.specs.Rule.{Rule}
-use Rattle.rewriting.specs.Rules.{RulesOf}
 use Rattle.rewriting.specs.Next.{run}
 use Rattle.machine.specs.Reducing.{IsReduction}
 use Rattle.node_store.specs.Memory.{Memory}
 use Rattle.node_store.specs.Sound.{held_at}
-use Rattle.compiled.specs.declared.CompiledRules.{CompiledRules}
-use Rattle.compiled.specs.Compiled.{IsCompiled}
 use Rattle.engine.specs.declared.reduce.Reduced.{Reduced}
 use Rattle.engine.specs.Reducing.{answered}
-
--- these rules are compiled from rules over a signature
-pub record FromRules (c : CompiledRules) : Type 0 where
-  pub signature : Sig
-  pub rules : List Rule
-  pub over : RulesOf signature rules
-  pub compiled : IsCompiled rules c
 
 -- of a term: the answer is how the reference machine reduces it with so many steps allowed and so many nodes free; the term after the steps made is held in its place, all others as they were, and the free nodes change by the symbols
 pub record ReducedFrom (rules : List Rule) (m : Memory) (place allowed : ℕ) (t : Term) (k : Memory) (r : Reduced) : Type 0 where
