@@ -1,11 +1,9 @@
 -- Making a right side's row of arguments from its last piece to its first.
-use Rattle.std.proofs.Common.{◌≡◌, ℕ, suc, ◌+◌, ◌-◌, ◌<◌, ◌≤◌, Bool, true, false, ◌||◌, List, [], ◌∷◌, ◌++◌, length, get_or, drop, Some, None, Option, Result, is_some, sym, refl, ap, ◌∙◌, subst, append_assoc, append-nil, arith}
+use Rattle.std.proofs.Common.{◌≡◌, ℕ, suc, ◌+◌, ◌-◌, ◌<◌, ◌≤◌, true, false, List, [], ◌∷◌, ◌++◌, length, get_or, Some, None, Option, sym, refl, ap, ◌∙◌, subst, append_assoc, append-nil, arith}
 use Rattle.std.proofs.lemmas.List.{length-append, get_or-drop}
 use Rattle.std.specs.List.{cons_option}
-use Rattle.std.specs.Result.{result_ok}
-use Rattle.fixed_vec.specs.declared.Full.{Full}
-use Rattle.fixed_vec.specs.FixedVec.{items, Added, Removed}
-use Rattle.terms.specs.Term.{Term, variable, instrument, apply, Terms, nil, cons, symbols}
+use Rattle.fixed_vec.specs.FixedVec.{items, Removed}
+use Rattle.terms.specs.Term.{Term, variable, instrument, apply, Terms, cons, symbols}
 use Rattle.terms.specs.Substitution.{fill, occurrences, occurrences_in}
 use Rattle.terms.specs.Signature.{Sig}
 use Rattle.terms.specs.Rule.{Rule, RuleOf, OperatorFirst}
@@ -13,13 +11,13 @@ use Rattle.traversal.specs.Walks.{most_symbols}
 use Rattle.rewriting.specs.Bindings.{Bindings, bound}
 use Rattle.rewriting.proofs.Matching.{binds}
 use Rattle.node_store.specs.Memory.{Memory}
-use Rattle.node_store.specs.Placed.{Placed, none, link, Held}
+use Rattle.node_store.specs.Placed.{Placed, Held}
 use Rattle.node_store.specs.Work.{Work, size_all}
 use Rattle.node_store.specs.Loading.{arguments_of}
-use Rattle.compiled.specs.Symbols.{parts_of, parts_under, any, has_arguments, is_variable, has_variable, Narrow, AllNarrow}
+use Rattle.compiled.specs.Symbols.{parts_of, parts_under, any, has_arguments, is_variable, has_variable, AllNarrow}
 use Rattle.compiled.specs.declared.Piece.{Piece}
 use Rattle.compiled.specs.declared.Plan.{Plan}
-use Rattle.compiled.specs.Plans.{source_of, pieces_of, pieces_under, Planned}
+use Rattle.compiled.specs.Plans.{source_of, pieces_of, Planned}
 use Rattle.matching.specs.Peeling.{Peeled}
 use Rattle.matching.proofs.Peelings.{Beside, peeled_beside}
 use Rattle.matching.proofs.Onwards.{links}
@@ -27,11 +25,11 @@ use Rattle.stepping.specs.Copying.{Taken}
 use Rattle.stepping.specs.Growing.{Grown}
 use Rattle.stepping.specs.Building.{MadeFrom, rows_in, BuiltRow}
 use Rattle.stepping.proofs.Occurring.{occurs_in}
-use Rattle.stepping.proofs.Reading.{Read, read_all, pieces_all, pieces_left, pieces_term, parts_term, as_many_under, occurs_under, read_has, narrow_under, read_narrow, LastRead, last_read, first_read, Skips}
+use Rattle.stepping.proofs.Reading.{Read, read_all, pieces_all, pieces_left, pieces_term, parts_term, as_many_under, occurs_under, read_has, narrow_under, read_narrow, LastRead, last_read, first_read}
 use Rattle.stepping.proofs.Keeping.{peels_binds, weights, weights-term}
 use Rattle.stepping.proofs.Forests.{GrownAll, no_row, row, Forest, forest_skips, taken_link, grown_any, has_any, links_shorter}
-use Rattle.stepping.proofs.Pieces.{Put, Pending, put_piece}
-use Rattle.stepping.proofs.Copies.{pushed_on, popped_link, no_items}
+use Rattle.stepping.proofs.Pieces.{put_piece}
+use Rattle.stepping.proofs.Copies.{popped_link, no_items}
 
 -- what is known of a rule, its plan, and the places and rows that its left side was found at
 pub record Ready (p : Plan) (rule : Rule) (places : List ℕ) (kp : Placed) (kept : List Placed) (v : Bindings) : Type 0 where
@@ -115,8 +113,8 @@ module _ (p : Plan) (rule : Rule) (places : List ℕ) (kp : Placed) (kept : List
         long = refl;
       }
 
-  module _ (i : ℕ) (m k : Memory) (stack made s₁ s₂ : List ℕ) (first next : Option ℕ) (x : Piece) (r : Option ℕ) (pieces : List Piece) (some : 0 < i) (all : pieces ≡ items p.pieces) (is : (d : Piece) → x ≡ get_or pieces (i - 1) d)
-      (t₁ : Taken x.has_first stack s₁ first) (t₂ : Taken x.has_next s₁ s₂ next) (piece : MadeFrom m x.source first next places k r) (b : Building m₀ p rule kept v h i m stack made) where
+  module _ (i : ℕ) (m k : Memory) (stack made s₁ s₂ : List ℕ) (first next : Option ℕ) (r : Option ℕ) (pieces : List Piece) (d : Piece) (some : 0 < i) (all : pieces ≡ items p.pieces)
+      (t₁ : Taken (get_or pieces (i - 1) d).has_first stack s₁ first) (t₂ : Taken (get_or pieces (i - 1) d).has_next s₁ s₂ next) (piece : MadeFrom m (get_or pieces (i - 1) d).source first next places k r) (b : Building m₀ p rule kept v h i m stack made) where
     -- the piece before is made
     pub build_step : NextBuilt m₀ p rule kept v h i k s₂ made r
     build_step = from_last (last_read (arguments_of rule.right) b.earlier b.rows (i - 1) (let n = b.many in omega arith) b.read)
@@ -130,16 +128,16 @@ module _ (p : Plan) (rule : Rule) (places : List ℕ) (kp : Placed) (kept : List
             count : length l.earlier ≡ i - 1
             count = let n = b.many in let e = ap length l.is in omega (arith, length-append l.earlier (l.term ∷ []))
 
-            piece_is : x ≡ record { source = source_of (parts_under rule.left) (rule.right ∷ l.earlier) l.term; has_first = has_arguments l.term; has_next = any l.later }
+            piece_is : get_or pieces (i - 1) d ≡ record { source = source_of (parts_under rule.left) (rule.right ∷ l.earlier) l.term; has_first = has_arguments l.term; has_next = any l.later }
             piece_is =
                 let whole = pieces_all (parts_under rule.left) (rule.right ∷ []) (arguments_of rule.right ∷ []) in
                 let n : i - 1 ≡ length l.earlier + 0 = omega (arith, count) in
-                is x ∙ (λ d. get_or ((all ∙ a.pieces) d) (n d) x) ∙ sym (get_or-drop (length l.earlier) whole 0 x) ∙ ap (λ ps. get_or ps 0 x) (pieces_left (arguments_of rule.right) (parts_under rule.left) (rule.right ∷ []) l.earlier (cons l.term l.later ∷ l.others) l.was)
+                (λ e. get_or ((all ∙ a.pieces) e) (n e) d) ∙ sym (get_or-drop (length l.earlier) whole 0 d) ∙ ap (λ ps. get_or ps 0 d) (pieces_left (arguments_of rule.right) (parts_under rule.left) (rule.right ∷ []) l.earlier (cons l.term l.later ∷ l.others) l.was)
 
             go : (rows : List Placed) (md : List ℕ) → made ≡ md → GrownAll (bound v) (arguments_of l.term ∷ l.later ∷ l.others) rows md → stack ≡ links rows → Work m h (rows ++ rows_in (rule.right ∷ b.earlier) v kept) f.gone → NextBuilt m₀ p rule kept v h i k s₂ made r
             go rows md e (row {q = q} {ps = ps} y (row {q = c} {ps = rs} {rs = more} {qs = forest} z others)) st wk =
-                let t₃ = taken_link x.has_first q (links (c ∷ forest)) stack s₁ first st (ap (λ (p : Piece). p.has_first) piece_is ∙ has_any l.term ∙ grown_any (bound v) (arguments_of l.term) q ps y) t₁ in
-                let t₄ = taken_link x.has_next c (links forest) s₁ s₂ next t₃.1 (ap (λ (p : Piece). p.has_next) piece_is ∙ grown_any (bound v) l.later c rs z) t₂ in
+                let t₃ = taken_link (get_or pieces (i - 1) d).has_first q (links (c ∷ forest)) stack s₁ first st (ap (λ (p : Piece). p.has_first) piece_is ∙ has_any l.term ∙ grown_any (bound v) (arguments_of l.term) q ps y) t₁ in
+                let t₄ = taken_link (get_or pieces (i - 1) d).has_next c (links forest) s₁ s₂ next t₃.1 (ap (λ (p : Piece). p.has_next) piece_is ∙ grown_any (bound v) l.later c rs z) t₂ in
                 let long = b.long in
                 let count_made = b.count in
                 let many = a.many in

@@ -20,7 +20,7 @@ use Rattle.node_store.proofs.Standing.{term_size}
 use Rattle.node_store.proofs.Tracing.{small}
 use Rattle.matching.specs.Surveying.{in_order}
 use Rattle.matching.proofs.Onwards.{links}
-use Rattle.stepping.specs.Copying.{Taken, Repeated, Repeats, Copied}
+use Rattle.stepping.specs.Copying.{Taken, Repeats, Copied}
 use Rattle.stepping.proofs.Reading.{Skips, same, one}
 use Rattle.stepping.proofs.Forests.{taken_link, links_shorter}
 
@@ -282,7 +282,7 @@ module _ (m₀ : Memory) (h : Held) (p : ℕ) (s : Option Symbol) (ks : Placed) 
             let stack_long = ap length st in
             let less = links_shorter a d rows in
             let z = made h named.0.0.0 a d (links rows) (rows ++ (b ∷ at p s ks none ∷ qs)) c.gone (ap (λ (n : Node). n.symbol) node ∙ named.0.0.1) (ap (λ (n : Node). is_some n.first) node ∙ same_some js a alike.0) (ap (λ (n : Node). is_some n.next) node ∙ same_some us d alike.1.0) st (omega arith) wk (omega arith) (omega (arith, old.long)) in
-            let new = ap length z.stacked in
+            let new = ap length {y = z.place ∷ links rows} z.stacked in
             record {
               answer = z.answer;
               copying = record {

@@ -1,12 +1,12 @@
 -- Giving back the rows of variables that the right side does not have.
-use Rattle.std.proofs.Common.{◌≡◌, ℕ, suc, ◌+◌, ◌≤◌, Bool, true, false, cond, List, [], ◌∷◌, ◌++◌, map, length, get_or, set, None, Option, sym, refl, ap, ◌∙◌, subst, append_assoc, ⊎_elim, ◌⊎◌, arith}
+use Rattle.std.proofs.Common.{◌≡◌, ℕ, suc, ◌+◌, ◌≤◌, Bool, true, false, cond, List, [], ◌∷◌, ◌++◌, map, length, get_or, None, Option, sym, refl, ap, ◌∙◌, subst, append_assoc, ⊎_elim, ◌⊎◌, arith}
 use Rattle.std.proofs.lemmas.List.{length-set, length-append}
 use Rattle.std.proofs.Math.Seq.{get_or-append_seam}
 use Rattle.terms.specs.declared.symbol.Symbol.{Symbol}
-use Rattle.terms.specs.Term.{Term, variable, instrument, apply}
+use Rattle.terms.specs.Term.{Term}
 use Rattle.rewriting.specs.Bindings.{Bindings}
 use Rattle.node_store.specs.Memory.{Memory, given}
-use Rattle.node_store.specs.Placed.{Placed, none, at, occ, size, IsTerm, Held}
+use Rattle.node_store.specs.Placed.{Placed, none, at, size, Held}
 use Rattle.node_store.specs.Work.{Work, occ_all}
 use Rattle.node_store.proofs.Placing.{hit_self}
 use Rattle.node_store.proofs.Helds.{hit_none, hit_yes}

@@ -1,8 +1,8 @@
 -- Rows of a right side that are made, and those whose siblings or first node are still to be made.
-use Rattle.std.proofs.Common.{◌≡◌, ℕ, ◌+◌, ◌≤◌, Bool, true, false, List, [], ◌∷◌, ◌++◌, length, Some, None, Option, is_some, sym, refl, ap, ◌∙◌, subst, append_assoc, arith}
+use Rattle.std.proofs.Common.{◌≡◌, ℕ, ◌≤◌, Bool, true, false, List, [], ◌∷◌, ◌++◌, length, Some, None, Option, is_some, refl, ◌∙◌, arith}
 use Rattle.std.specs.List.{cons_option}
 use Rattle.terms.specs.Term.{Term, variable, instrument, apply, Terms, nil, cons, how_many}
-use Rattle.terms.specs.Substitution.{Substitution, fill, fill_all}
+use Rattle.terms.specs.Substitution.{Substitution, fill_all}
 use Rattle.node_store.specs.Memory.{Memory}
 use Rattle.node_store.specs.Placed.{Placed, none, at, link, AreTerms, Held}
 use Rattle.node_store.specs.Work.{Work}

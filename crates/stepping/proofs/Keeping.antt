@@ -1,16 +1,15 @@
 -- The rows that a left side's variables stand for: where they are, and which of them the right side needs.
-use Rattle.std.proofs.Common.{◌≡◌, ℕ, zero, suc, ◌+◌, ◌≤◌, ◌==◌, Bool, true, false, cond, ◌||◌, List, [], ◌∷◌, ◌++◌, length, get_or, Some, None, Option, sym, refl, ap, ◌∙◌, subst, append_assoc, eqb-true, eq-eqb, ⊎_elim, ◌<◌, arith}
-use Rattle.std.proofs.lemmas.Bool.{cases_lt}
+use Rattle.std.proofs.Common.{◌≡◌, ℕ, zero, suc, ◌+◌, ◌≤◌, ◌==◌, Bool, true, false, cond, ◌||◌, List, [], ◌∷◌, ◌++◌, length, get_or, Option, sym, refl, ap, ◌∙◌, eqb-true, eq-eqb, arith}
 use Rattle.terms.specs.declared.symbol.Symbol.{Symbol}
 use Rattle.terms.specs.Term.{Term, variable, instrument, apply, Terms, nil, cons, symbols, symbols_in}
-use Rattle.terms.specs.Substitution.{fill, fill_all, occurrences, occurrences_in}
+use Rattle.terms.specs.Substitution.{fill, fill_all}
 use Rattle.rewriting.specs.Bindings.{Bindings, bound}
 use Rattle.rewriting.proofs.Matching.{binds, binds_append, bound_right}
 use Rattle.node_store.specs.Placed.{Placed, none, at, size, IsTerm}
 use Rattle.node_store.specs.Work.{size_all}
 use Rattle.node_store.proofs.Placing.{hit_self}
 use Rattle.node_store.proofs.Standing.{term_size}
-use Rattle.compiled.specs.Symbols.{parts_of, parts_under, is_variable, has_variable, home}
+use Rattle.compiled.specs.Symbols.{parts_of, parts_under, has_variable, home}
 use Rattle.matching.specs.Peeling.{Peels, done, end, bind, leaf, under}
 use Rattle.matching.proofs.Peelings.{Beside, nothing, bound_part, leaf_part, node_part}
 use Rattle.stepping.specs.Keeping.{rows_for}

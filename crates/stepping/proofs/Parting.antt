@@ -1,16 +1,16 @@
 -- Taking apart what a left side matched.
-use Rattle.std.proofs.Common.{◌≡◌, ℕ, ◌≤◌, List, [], ◌∷◌, ◌++◌, length, get_or, set, Some, None, Option, sym, refl, ap, ◌∙◌, subst, append_assoc, ⊎_elim, ◌⊎◌, arith}
+use Rattle.std.proofs.Common.{◌≡◌, ℕ, ◌≤◌, List, [], ◌∷◌, ◌++◌, length, Some, None, Option, sym, refl, ap, ◌∙◌, subst, append_assoc, ⊎_elim, ◌⊎◌, arith}
 use Rattle.std.proofs.lemmas.List.{length-set}
 use Rattle.terms.specs.declared.symbol.Symbol.{Symbol}
 use Rattle.terms.specs.declared.symbol.Symbol.TheVariants.{Instrument, Operator}
-use Rattle.terms.specs.Term.{Terms, nil, cons}
+use Rattle.terms.specs.Term.{Terms}
 use Rattle.rewriting.specs.Bindings.{Bindings}
 use Rattle.node_store.specs.Memory.{Memory, freed_at}
 use Rattle.node_store.specs.Placed.{Placed, none, at, Held}
 use Rattle.node_store.specs.Work.{Work}
 use Rattle.node_store.proofs.Rows.{without_none, to_front, from_front, node_freed, row_ended}
 use Rattle.compiled.specs.declared.Check.{Check}
-use Rattle.compiled.specs.Plans.{checks_of, checks_under}
+use Rattle.compiled.specs.Plans.{checks_of}
 use Rattle.matching.specs.Peeling.{Peels, done, end, bind, leaf, under}
 use Rattle.stepping.specs.Parting.{parted_at, parted}
 

@@ -3,20 +3,19 @@ use Rattle.std.proofs.Common.{◌≡◌, ℕ, ◌+◌, ◌≤◌, ◌==◌, Bool
 use Rattle.std.proofs.lemmas.List.{length-set}
 use Rattle.terms.specs.declared.symbol.Symbol.{Symbol}
 use Rattle.terms.specs.declared.symbol.Symbol.TheVariants.{Instrument, Operator}
-use Rattle.terms.specs.Term.{Term, variable, instrument, apply, Terms, nil, cons, symbols, how_many}
+use Rattle.terms.specs.Term.{Term, variable, instrument, apply, Terms, nil, cons, symbols}
 use Rattle.traversal.specs.Walks.{most_symbols}
 use Rattle.rewriting.specs.Bindings.{Bindings, bound}
 use Rattle.rewriting.proofs.Matching.{binds}
 use Rattle.node_store.specs.Memory.{Memory, linked}
-use Rattle.node_store.specs.Placed.{Placed, none, at, link, size, IsTerm, Held}
+use Rattle.node_store.specs.Placed.{Placed, none, at, link, IsTerm, Held}
 use Rattle.node_store.specs.Work.{Work, Joins, Joined, size_all}
 use Rattle.node_store.specs.Loading.{arguments_of}
 use Rattle.node_store.proofs.Rows.{without_none, swapped, to_front, from_front, row_linked}
 use Rattle.node_store.proofs.Standing.{term_size}
 use Rattle.node_store.proofs.Tracing.{small}
 use Rattle.compiled.specs.Symbols.{is_variable, has_variable, home, Narrow}
-use Rattle.compiled.specs.declared.Source.{Source}
-use Rattle.compiled.specs.declared.Source.TheVariants.{Made, Moved, Copied}
+use Rattle.compiled.specs.declared.Source.TheVariants.{Moved, Copied}
 use Rattle.compiled.specs.Plans.{source_of}
 use Rattle.matching.proofs.Peelings.{Beside}
 use Rattle.stepping.specs.Growing.{Grown, nothing, part, leaf, node}
@@ -129,7 +128,7 @@ module _ (l : List Term) (right : Term) (places : List ℕ) (kept : List Placed)
             row = new;
             gone = made.gone;
             answer = made.answer;
-            begins = refl;
+            begins = refl {a = Some made.place};
             grown = grow_part v x made.place o.symbol made.row a c us ps rs (subst (IsTerm o.symbol made.row) (sym t) made.is) bare_row grown;
             work = subst (λ rows. Work k h (new ∷ rows) made.gone) same rows;
             room = omega (arith, p.room, made.free);
@@ -161,7 +160,7 @@ module _ (l : List Term) (right : Term) (places : List ℕ) (kept : List Placed)
             row = new;
             gone = g;
             answer = answer ∙ ap Some o.stands;
-            begins = refl;
+            begins = refl {a = Some o.place};
             grown = grow_part v x o.place o.symbol o.args a c us ps rs (subst (IsTerm o.symbol o.args) (sym t) o.is) bare_row grown;
             work = subst (λ rows. Work k h (new ∷ rows) g) same rows;
             room = omega (arith, p.room);

@@ -1,12 +1,12 @@
 -- Reading the parts of a row: after some of them, rows are left, and the pieces for these.
-use Rattle.std.proofs.Common.{◌≡◌, ℕ, zero, suc, ◌+◌, ◌≤◌, Bool, true, false, ◌||◌, List, [], ◌∷◌, ◌++◌, length, drop, sym, refl, ap, ◌∙◌, subst, append_assoc, append-nil, arith}
+use Rattle.std.proofs.Common.{◌≡◌, ℕ, suc, ◌+◌, ◌≤◌, Bool, true, false, ◌||◌, List, [], ◌∷◌, ◌++◌, length, drop, sym, refl, ap, ◌∙◌, subst, append_assoc, append-nil, arith}
 use Rattle.std.proofs.lemmas.List.{length-append, drop-drop}
 use Rattle.terms.specs.Term.{Term, variable, instrument, apply, Terms, nil, cons}
 use Rattle.node_store.specs.Loading.{arguments_of}
 use Rattle.terms.specs.Substitution.{occurrences, occurrences_in}
 use Rattle.compiled.specs.Symbols.{parts_of, parts_under, is_variable, has_variable, Narrow, AllNarrow}
 use Rattle.compiled.specs.declared.Piece.{Piece}
-use Rattle.compiled.specs.Plans.{source_of, pieces_of, pieces_under}
+use Rattle.compiled.specs.Plans.{pieces_of, pieces_under}
 use Rattle.stepping.proofs.Occurring.{has_snoc, occurs_as}
 
 -- the parts that are read so far, and the rows that are left

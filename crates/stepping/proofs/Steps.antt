@@ -5,45 +5,43 @@ use Rattle.fixed_vec.specs.FixedVec.{items}
 use Rattle.terms.specs.declared.node.Node.{Node}
 use Rattle.terms.specs.declared.symbol.Symbol.{Symbol}
 use Rattle.terms.specs.declared.symbol.Symbol.TheVariants.{Instrument, Operator}
-use Rattle.terms.specs.Term.{Term, variable, instrument, apply, Terms, nil, cons, symbols}
+use Rattle.terms.specs.Term.{Term, variable, instrument, apply, nil, symbols}
 use Rattle.terms.specs.Nodes.{vacant}
 use Rattle.terms.specs.Position.{put_at}
-use Rattle.terms.specs.Substitution.{fill, fill_all, occurrences}
+use Rattle.terms.specs.Substitution.{fill, occurrences}
 use Rattle.terms.specs.Signature.{Sig}
 use Rattle.terms.specs.Rule.{Rule, RuleOf}
 use Rattle.traversal.specs.Walks.{most_symbols}
 use Rattle.rewriting.specs.Bindings.{Bindings, bound}
 use Rattle.rewriting.proofs.Filling.{count_self}
 use Rattle.node_store.specs.Memory.{Memory, freed_at, laid_over}
-use Rattle.node_store.specs.Placed.{Placed, none, at, link, occ, size, IsTerm, Held, also}
-use Rattle.node_store.specs.Work.{Work, occ_all, size_all}
+use Rattle.node_store.specs.Placed.{Placed, none, at, link, size, IsTerm, Held, also}
+use Rattle.node_store.specs.Work.{Work, size_all}
 use Rattle.node_store.specs.Grafting.{graft, Sub}
 use Rattle.node_store.specs.Loading.{arguments_of}
 use Rattle.node_store.proofs.Rows.{with_none, without_none, swapped, node_freed}
 use Rattle.node_store.proofs.Counting.{all_nodes}
 use Rattle.node_store.proofs.Grafts.{graft-graft, sub_graft}
 use Rattle.node_store.proofs.Regrafting.{regrafted, held_node, held_once}
-use Rattle.node_store.proofs.Parts.{PartOf, part_of}
+use Rattle.node_store.proofs.Parts.{part_of}
 use Rattle.compiled.specs.Symbols.{parts_under, is_variable, has_variable, home, Narrow}
 use Rattle.compiled.specs.declared.Piece.{Piece}
 use Rattle.compiled.specs.declared.Plan.{Plan}
-use Rattle.compiled.specs.declared.Source.{Source}
 use Rattle.compiled.specs.declared.Source.TheVariants.{Made, Moved}
-use Rattle.compiled.specs.declared.Check.{Check}
-use Rattle.compiled.specs.Plans.{checks_of, checks_under, dropped_from, source_of, Planned}
+use Rattle.compiled.specs.Plans.{checks_of, checks_under, source_of, Planned}
 use Rattle.matching.specs.Peeling.{Peeled, size_at}
 use Rattle.matching.specs.Room.{dropped_sizes}
-use Rattle.stepping.specs.Growing.{Grown, GrownUnder}
+use Rattle.stepping.specs.Growing.{GrownUnder}
 use Rattle.stepping.specs.Keeping.{rows_for}
 use Rattle.stepping.specs.Parting.{parted, without, moved_to, finished}
 use Rattle.stepping.specs.Building.{rows_in, BuiltRow, Builds}
 use Rattle.stepping.specs.Stepping.{Stepped}
 use Rattle.stepping.proofs.Parting.{checks_all, Loose, taken_apart}
-use Rattle.stepping.proofs.Keeping.{Found, find_row, found_bound, row_among, rows_for-none, asked_more}
+use Rattle.stepping.proofs.Keeping.{find_row, found_bound, row_among, rows_for-none, asked_more}
 use Rattle.stepping.proofs.Dropping.{rows_given}
 use Rattle.stepping.proofs.Forests.{grown_nil, grown_terms, fill_many}
 use Rattle.stepping.proofs.Copies.{few_nodes}
-use Rattle.stepping.proofs.Buildings.{Ready, ready}
+use Rattle.stepping.proofs.Buildings.{ready}
 
 -- without arguments a symbol is a term too
 bare_term : (s : Option Symbol) (ks : Placed) (t : Term) → IsTerm s ks t → (u : Term) × IsTerm s none u
