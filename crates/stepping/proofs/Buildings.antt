@@ -4,14 +4,14 @@ use Rattle.std.proofs.lemmas.List.{length-append, get_or-drop}
 use Rattle.std.specs.List.{cons_option}
 use Rattle.fixed_vec.specs.FixedVec.{items, Removed}
 use Rattle.terms.specs.Term.{Term, variable, instrument, apply, Terms, cons, symbols}
-use Rattle.terms.specs.Substitution.{fill, occurrences, occurrences_in}
+use Rattle.terms.specs.Substitution.{fill, occurrences}
 use Rattle.terms.specs.Signature.{Sig}
-use Rattle.terms.specs.Rule.{Rule, RuleOf, OperatorFirst}
+use Rattle.terms.specs.Rule.{Rule, RuleOf}
 use Rattle.traversal.specs.Walks.{most_symbols}
 use Rattle.rewriting.specs.Bindings.{Bindings, bound}
 use Rattle.rewriting.proofs.Matching.{binds}
 use Rattle.node_store.specs.Memory.{Memory}
-use Rattle.node_store.specs.Placed.{Placed, Held}
+use Rattle.node_store.specs.Placed.{Placed, Held, link}
 use Rattle.node_store.specs.Work.{Work, size_all}
 use Rattle.node_store.specs.Loading.{arguments_of}
 use Rattle.compiled.specs.Symbols.{parts_of, parts_under, any, has_arguments, is_variable, has_variable, AllNarrow}
@@ -24,10 +24,12 @@ use Rattle.matching.proofs.Onwards.{links}
 use Rattle.stepping.specs.Copying.{Taken}
 use Rattle.stepping.specs.Growing.{Grown}
 use Rattle.stepping.specs.Building.{MadeFrom, rows_in, BuiltRow}
-use Rattle.stepping.proofs.Occurring.{occurs_in}
-use Rattle.stepping.proofs.Reading.{Read, read_all, pieces_all, pieces_left, pieces_term, parts_term, as_many_under, occurs_under, read_has, narrow_under, read_narrow, LastRead, last_read, first_read}
-use Rattle.stepping.proofs.Keeping.{peels_binds, weights, weights-term}
-use Rattle.stepping.proofs.Forests.{GrownAll, no_row, row, Forest, forest_skips, taken_link, grown_any, has_any, links_shorter}
+use Rattle.stepping.proofs.Reading.{Read, read_all, pieces_all, pieces_left, pieces_term, as_many_under, term_occurs, read_has, narrow_under, read_narrow, LastRead, last_read, first_read}
+use Rattle.matching.proofs.Copies.{filled_symbols}
+use Rattle.matching.proofs.Needs.{parts_same, left_times}
+use Rattle.matching.proofs.Sums.{times_has}
+use Rattle.stepping.proofs.Keeping.{beside_binds, weights}
+use Rattle.stepping.proofs.Forests.{GrownAll, no_row, row, Forest, forest_skips, taken_link, grown_any, has_any, longer}
 use Rattle.stepping.proofs.Pieces.{put_piece}
 use Rattle.stepping.proofs.Copies.{popped_link, no_items}
 
@@ -40,19 +42,17 @@ pub record Ready (p : Plan) (rule : Rule) (places : List ℕ) (kp : Placed) (kep
   pub pieces : items p.pieces ≡ pieces_all (parts_under rule.left) (rule.right ∷ []) (arguments_of rule.right ∷ [])
   pub many : length (items p.pieces) ≡ length (parts_of (arguments_of rule.right))
 
-operator_occurs : (x : ℕ) (t : Term) → OperatorFirst t → occurrences x t ≡ occurrences_in x (arguments_of t)
-operator_occurs x (variable y) f = absurd f
-operator_occurs x (instrument n) f = absurd f
-operator_occurs x (apply f ts) o = refl
+all_beside : (left : Term) (places : List ℕ) (kp : Placed) (kept : List Placed) (v : Bindings) → Peeled (arguments_of left) kp places kept v → Beside kp (parts_under left) places kept v
+all_beside left places kp kept v e = subst (λ l. Beside kp l places kept v) (sym (parts_same left)) (peeled_beside e)
 
 pub ready : (p : Plan) (sig : Sig) (rule : Rule) (places : List ℕ) (kp : Placed) (kept : List Placed) (v : Bindings) → RuleOf sig rule → Planned rule p → Peeled (arguments_of rule.left) kp places kept v → Ready p rule places kp kept v
 ready p sig rule places kp kept v r d e = record {
-  beside = subst (λ l. Beside kp l places kept v) (sym (parts_term rule.left)) (peeled_beside e);
-  one = λ x. let b = peels_binds x (arguments_of rule.left ∷ []) (kp ∷ []) places kept v e in omega (arith, r.linear x, operator_occurs x rule.left r.operator_first);
-  inside = λ x o. let b = r.bound x o in subst (λ l. has_variable x l ≡ true) (sym (parts_term rule.left)) (occurs_in x (arguments_of rule.left) (omega (arith, operator_occurs x rule.left r.operator_first)));
+  beside = all_beside rule.left places kp kept v e;
+  one = λ x. let b = beside_binds x kp (parts_under rule.left) places kept v (all_beside rule.left places kp kept v e) in omega (arith, r.linear x, left_times sig rule r x);
+  inside = λ x o. let b = r.bound x o in times_has x (parts_under rule.left) (omega (arith, left_times sig rule r x));
   narrow = narrow_under rule.right d.narrow;
   pieces = d.pieces ∙ pieces_term (parts_under rule.left) (rule.right ∷ []) rule.right ∙ sym (append-nil (pieces_of (parts_under rule.left) (rule.right ∷ []) (arguments_of rule.right)));
-  many = ap length d.pieces ∙ as_many_under (parts_under rule.left) (rule.right ∷ []) rule.right ∙ ap length (parts_term rule.right);
+  many = ap length d.pieces ∙ as_many_under (parts_under rule.left) (rule.right ∷ []) rule.right ∙ ap length (parts_same rule.right);
 }
 
 -- the pieces from a number on are made, and their rows stand
@@ -71,7 +71,7 @@ pub record Building (m₀ : Memory) (p : Plan) (rule : Rule) (kept : List Placed
 pieces_weigh : (v : Bindings) (t : Term) (n : ℕ) → symbols (fill (bound v) t) ≤ suc n → weights v (parts_of (arguments_of t)) ≤ n
 pieces_weigh v (variable y) n e = omega arith
 pieces_weigh v (instrument k) n e = omega arith
-pieces_weigh v (apply f ts) n e = omega (arith, weights-term v (apply f ts))
+pieces_weigh v (apply f ts) n e = omega (arith, filled_symbols (bound v) (apply f ts))
 
 no_variable : (t : Term) → 0 < length (parts_of (arguments_of t)) → (x : ℕ) → is_variable x t ≡ false
 no_variable (variable y) e x = absurd (let z : ⊥ = omega arith in z)
@@ -99,14 +99,14 @@ module _ (p : Plan) (rule : Rule) (places : List ℕ) (kp : Placed) (kept : List
   pub build_starts : (n : ℕ) (g : Placed) (stack made : List ℕ) → n ≡ length (items p.pieces) → stack ≡ [] → made ≡ [] → Work m₀ h (rows_in (rule.right ∷ parts_under rule.right) v kept) g
       → symbols (fill (bound v) rule.right) ≤ suc (m₀.free + size_all (rows_in (rule.right ∷ parts_under rule.right) v kept)) → Building m₀ p rule kept v h n m₀ stack made
   build_starts n g stack made e s d w room =
-      let few_parts = ap (λ l. size_all (rows_in (rule.right ∷ l) v kept)) (parts_term rule.right) in
+      let few_parts = ap (λ l. size_all (rows_in (rule.right ∷ l) v kept)) (parts_same rule.right) in
       let no_made = ap length d in
       record {
         earlier = parts_of (arguments_of rule.right);
         rows = [];
         read = read_all (arguments_of rule.right);
         many = sym (e ∙ a.many);
-        forest = record { rows = []; gone = g; grown = subst (GrownAll (bound v) [] []) (sym d) no_row; stacked = s; work = subst (λ l. Work m₀ h (rows_in (rule.right ∷ l) v kept) g) (parts_term rule.right) w };
+        forest = record { rows = []; gone = g; grown = subst (GrownAll (bound v) [] []) (sym d) no_row; stacked = s; work = subst (λ l. Work m₀ h (rows_in (rule.right ∷ l) v kept) g) (parts_same rule.right) w };
         room = pieces_weigh v rule.right _ (omega arith);
         short = let z = ap length s in omega arith;
         count = omega arith;
@@ -144,12 +144,12 @@ module _ (p : Plan) (rule : Rule) (places : List ℕ) (kp : Placed) (kept : List
                 let short = b.short in
                 let stacked = ap length st in
                 let left = ap length t₄.1 in
-                let less = links_shorter q c forest in
+                let less = longer (link q) (link c) (links forest) in
                 let narrow = (read_narrow (arguments_of rule.right) l.earlier (cons l.term l.later ∷ l.others) a.narrow l.was).0.0 in
                 let source = ap (λ (p : Piece). p.source) piece_is in
                 let put = put_piece (parts_under rule.left) rule.right places kept v kp a.beside a.one (no_variable rule.right (omega arith)) h m k l.earlier l.later q c forest ps rs f.gone first next r (sym t₃.0) (sym t₄.0) (omega arith) l.term (record {
                   work = subst (λ bs. Work m h (q ∷ c ∷ (forest ++ rows_in (rule.right ∷ bs) v kept)) f.gone) l.is wk;
-                  inside = λ y e. a.inside y (let o = read_has y (arguments_of rule.right) b.earlier b.rows b.read (ap (has_variable y) l.is ∙ e) in let u = occurs_under y rule.right in omega arith);
+                  inside = λ y e. a.inside y (omega (arith, read_has y (arguments_of rule.right) b.earlier b.rows b.read (ap (has_variable y) l.is ∙ e), term_occurs y rule.right));
                   room = subst (λ bs. weights v bs ≤ m.free + size_all (rows_in (rule.right ∷ bs) v kept)) l.is b.room;
                 }) y z narrow (subst (λ s. MadeFrom m s first next places k r) source piece) in
                 record {

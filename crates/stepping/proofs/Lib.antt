@@ -1,5 +1,4 @@
 pub mod Parting
-pub mod Occurring
 pub mod Reading
 pub mod Keeping
 pub mod Dropping

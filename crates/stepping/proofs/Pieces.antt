@@ -21,10 +21,9 @@ use Rattle.matching.proofs.Peelings.{Beside}
 use Rattle.stepping.specs.Growing.{Grown, nothing, part, leaf, node}
 use Rattle.stepping.specs.Copying.{Copies}
 use Rattle.stepping.specs.Building.{MadeFrom, rows_in}
-use Rattle.stepping.proofs.Occurring.{has_snoc, right_or}
 use Rattle.stepping.proofs.Forests.{grown_nil}
 use Rattle.stepping.specs.Keeping.{rows_for}
-use Rattle.stepping.proofs.Keeping.{weights-append, size_middle, Found, find_row, found_bound, row_among, weight, weights, rows_weigh, asked_again, asked_more}
+use Rattle.stepping.proofs.Keeping.{has_snoc, right_or, weights-append, size_middle, Found, find_row, found_bound, row_among, weights, rows_weigh, asked_again, asked_more}
 
 grow_leaf : (v : Bindings) (n q : ℕ) (a c : Placed) (us : Terms) (ps rs : List ℕ) → Grown (bound v) nil a ps → Grown (bound v) us c rs → Grown (bound v) (cons (instrument n) us) (at q (Some (Instrument n)) a c) (q ∷ (ps ++ rs))
 grow_leaf v n q a c us ps rs nothing g = leaf g
@@ -61,7 +60,7 @@ module _ (l : List Term) (right : Term) (places : List ℕ) (kept : List Placed)
       pub room : weights v (earlier ++ t ∷ []) ≤ m.free + size_all (rows_in (right ∷ (earlier ++ t ∷ [])) v kept)
 
     -- there are as many free nodes as the part needs, if it asks for no row
-    enough : (t : Term) → Pending t → rows_in (right ∷ (earlier ++ t ∷ [])) v kept ≡ rows_in (right ∷ earlier) v kept → weight v t ≤ m.free
+    enough : (t : Term) → Pending t → rows_in (right ∷ (earlier ++ t ∷ [])) v kept ≡ rows_in (right ∷ earlier) v kept → weights v (t ∷ []) ≤ m.free
     enough t p e =
         let x = ap size_all (e ∙ asks earlier) in
         let y = rows_weigh v kept l places w beside one earlier (λ x q. p.inside x (has_snoc x earlier t ∙ ap (λ b. is_variable x t || b) q ∙ right_or (is_variable x t))) in
@@ -69,7 +68,7 @@ module _ (l : List Term) (right : Term) (places : List ℕ) (kept : List Placed)
         omega (arith, p.room)
 
     -- a new node
-    put_made : (t : Term) (y : Symbol) → Pending t → Joins m y first next k r → ((x : ℕ) → is_variable x t ≡ false) → weight v t ≡ 1 → ((q : ℕ) → Grown (bound v) (cons t us) (at q (Some y) a c) (q ∷ (ps ++ rs))) → Put m k earlier t us (ps ++ rs) forest r
+    put_made : (t : Term) (y : Symbol) → Pending t → Joins m y first next k r → ((x : ℕ) → is_variable x t ≡ false) → weights v (t ∷ []) ≡ 1 → ((q : ℕ) → Grown (bound v) (cons t us) (at q (Some y) a c) (q ∷ (ps ++ rs))) → Put m k earlier t us (ps ++ rs) forest r
     put_made t y p joins plain one_node grow = go r (joins h a c (forest ++ before) g p.work b d (let n = small (length m.nodes) few in omega arith))
       where
         before : List Placed

@@ -36,7 +36,10 @@ use Rattle.stepping.specs.Keeping.{rows_for}
 use Rattle.stepping.specs.Parting.{parted, without, moved_to, finished}
 use Rattle.stepping.specs.Building.{rows_in, BuiltRow, Builds}
 use Rattle.stepping.specs.Stepping.{Stepped}
-use Rattle.stepping.proofs.Parting.{checks_all, Loose, taken_apart}
+use Rattle.matching.proofs.Matches.{checks_same}
+use Rattle.matching.proofs.Pairings.{all_checks}
+use Rattle.matching.proofs.Rooms.{Standing, standing, found_size}
+use Rattle.stepping.proofs.Parting.{Loose, taken_apart}
 use Rattle.stepping.proofs.Keeping.{find_row, found_bound, row_among, rows_for-none, asked_more}
 use Rattle.stepping.proofs.Dropping.{rows_given}
 use Rattle.stepping.proofs.Forests.{grown_nil, grown_terms, fill_many}
@@ -89,10 +92,8 @@ no_append : (xs ys : List Placed) → xs ++ ys ≡ [] → (xs ≡ []) × (ys ≡
 no_append [] ys e = (refl, e)
 no_append (x ∷ xs) ys e = absurd (let n = ap length e in let z : ⊥ = omega arith in z)
 
-checks_under_are : (t : Term) → checks_under t ≡ checks_all (arguments_of t ∷ [])
-checks_under_are (variable x) = refl
-checks_under_are (instrument n) = refl
-checks_under_are (apply f ts) = sym (append-nil (checks_of ts))
+checks_under_are : (t : Term) → checks_under t ≡ all_checks (arguments_of t ∷ [])
+checks_under_are t = checks_same t ∙ sym (append-nil (checks_of (arguments_of t)))
 
 -- what is ready when the right side is to be built
 pub record Prepared (m : Memory) (h : Held) (root : ℕ) (s : Option Symbol) (ks : Placed) (place : ℕ) (sp : Option Symbol) (kept : List Placed) (v : Bindings) (right : Term) (k : Memory) : Type 0 where
@@ -120,7 +121,7 @@ module _ (p : Plan) (sig : Sig) (rule : Rule) (places : List ℕ) (kp : Placed) 
       let apart : Loose m₁ held kept m₂ = subst (λ l. Loose m₁ held l m₂) (append-nil kept) (subst (λ y. Loose m₁ held (kept ++ []) y) (sym (e₂ ∙ ap (λ cs. parted m₁ cs places) (planned.checks ∙ checks_under_are rule.left))) a) in
       let long₂ = apart.long in
       let w₂ = subst (λ l. Work m₂ held l apart.gone) (sym (append-nil kept)) apart.work in
-      let b = rows_given held kp (rule.right ∷ parts_under rule.right) places kept (λ j. let o = apart.work.once j in omega arith) (parts_under rule.left) places kept v 0 [] [] [] apart.gone m₂ ready.beside refl refl refl (omega arith) w₂ in
+      let b = rows_given held kp (rule.right ∷ parts_under rule.right) places kept (λ xs ys i s ks e. ap (λ l. size_at l i) e ∙ found_size m₁.nodes kp c.work.rows.0 xs ys i s ks (subst (Standing kp) e (standing ready.beside))) (parts_under rule.left) places kept v 0 [] [] [] apart.gone m₂ ready.beside refl refl refl (omega arith) w₂ in
       let parts = rule.right ∷ parts_under rule.right in
       let sizes_of = λ (k : ℕ). size_at kept (get_or places k 0) in
       let given : Loose m₂ held (rows_in parts v kept) m₃ = subst (λ l. Loose m₂ held l m₃) (append-nil (rows_in parts v kept)) (subst (λ y. Loose m₂ held (rows_in parts v kept ++ []) y) (sym (e₃ ∙ (λ d. without m₂ (planned.dropped d) ((sized ∙ ap (map sizes_of) planned.dropped) d) places))) b) in

@@ -17,8 +17,8 @@ pub fn copy(store: &mut Store, place: u16, next: Option<u16>, scratch: &mut Scra
         let source = scratch.order.pop()?;
         repeat(store, source, &mut scratch.stack)?;
     }
-    let first = scratch.stack.pop();
-    store.join(node.symbol?, first, next)
+    let row = scratch.stack.pop();
+    store.join(node.symbol?, row, next)
 }
 
 // The node at a place again, over the row of copies that is on top of the stack, if it has arguments, and before the next one, if it has a
