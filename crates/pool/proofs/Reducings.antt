@@ -1,6 +1,5 @@
 -- What reducing does to a pool.
-use Rattle.std.proofs.Common.{◌≡◌, ℕ, refl, sym, ◌∙◌, ap, ◌*◌, ◌==◌, cond, true, List, [], length, get_or, Some, None, Option}
-use Rattle.std.proofs.Math.Decide.{ℕ_discrete}
+use Rattle.std.proofs.Common.{◌≡◌, ℕ, refl, sym, ◌∙◌, ap, ◌*◌, cond, true, List, [], get_or, Some, None}
 use Rattle.std.proofs.Math.Logic.{∥∥₁_elim}
 use Rattle.std.proofs.Math.Nat.{ℕ_set}
 use Rattle.terms.specs.Term.{Term}
@@ -17,13 +16,13 @@ use Rattle.machine.proofs.Reducing.{reductions_fixed}
 use Rattle.node_store.specs.Memory.{Memory}
 use Rattle.node_store.specs.Sound.{Sound, leads, held_at}
 use Rattle.node_store.proofs.Helds.{held_set, held_is}
-use Rattle.node_store.proofs.Resting.{Apart, apart, Exchanged, exchanged}
+use Rattle.node_store.proofs.Resting.{apart, Exchanged, exchanged}
 use Rattle.node_store.proofs.Loadings.{at_work}
 use Rattle.compiled.specs.declared.CompiledRules.{CompiledRules}
 use Rattle.compiled.specs.Compiled.{IsCompiled}
 use Rattle.engine.specs.declared.reduce.Reduced.{Reduced}
 use Rattle.engine.specs.Reducing.{answered, Reduces}
-use Rattle.pool.specs.Reducing.{ReducedFrom, ReducesHeld}
+use Rattle.pool.specs.Reducing.{ReducedFrom}
 
 stop_discrete : Discrete Stop
 stop_discrete finished finished = yes refl
