@@ -11,5 +11,6 @@ pub record ChainedFrom (rules : List Rule) (k : ℕ) (c : Chains) : Type 0 where
   pub heads : (f : ℕ) → f < 32 → FirstFrom rules f k (slice_index_or c.heads f None)
   pub nexts : (i f : ℕ) → k ≤ i → i < length rules → BeginsWith f (left_of rules i) → FirstFrom rules f (suc i) (slice_index_or c.nexts i None)
 
+-- all of them are
 abbrev pub Chained : List Rule → Chains → Type 0
 Chained rules = ChainedFrom rules 0

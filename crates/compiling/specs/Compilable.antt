@@ -9,7 +9,7 @@ pub record Linear (t : Term) : Type 0 where
   pub eight : (x : ℕ) → 8 ≤ x → occurrences x t ≡ 0
   pub once : (x : ℕ) → occurrences x t ≤ 1
 
--- and the left side begins with an operator
+-- the left side is such a term and begins with an operator
 pub record Compilable (r : Rule) : Type 0 where
   pub operator_first : OperatorFirst r.left
   pub linear : Linear r.left

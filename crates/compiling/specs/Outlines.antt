@@ -17,6 +17,7 @@ first_of (variable x) = Variable x
 first_of (instrument n) = Instrument n
 first_of (apply f ts) = Operator f
 
+-- and whether it has arguments, and a next sibling
 abbrev pub part_of : Term → Bool → Part
 part_of t next = record { symbol = first_of t; has_first = has_arguments t; has_next = next }
 
@@ -32,11 +33,13 @@ abbrev mutual
   outline_under (instrument n) = []
   outline_under (apply f ts) = outline_of ts
 
+-- the outline is that of the term
 pub record Outlines (t : Term) (o : Outline) : Type 0 where
   pub root : o.root ≡ part_of t false
   pub others : items o.others ≡ outline_under t
   pub operators : items o.operators ≡ operators_under t
 
+-- the outlines are those of the sides of the rule
 pub record OutlinesRule (r : Rule) (left right : Outline) : Type 0 where
   pub left_is : Outlines r.left left
   pub right_is : Outlines r.right right
@@ -47,6 +50,7 @@ alone (Variable x) = variable x
 alone (Instrument n) = instrument n
 alone (Operator f) = apply f nil
 
+-- that for the symbol of a part
 abbrev pub leaf : Part → Term
 leaf p = alone p.symbol
 
