@@ -1,6 +1,6 @@
 ghost use Rattle.std.specs.Prelude.{ℕ, ◌≤◌, List, length, MatchOption};
 ghost use Rattle.terms.specs.Rule.{Rule};
-ghost use Rattle.compiled.specs.Compiled.{PlanOf, Beginning, RulesOut, IsCompiled};
+ghost use Rattle.compiled.specs.Compiled.{PlanOf, Beginning, RulesOut, FrontsOf, IsCompiled};
 
 use crate::{CompiledRules, Fronts, Plan};
 use rule_set::RuleSet;
@@ -42,7 +42,9 @@ impl CompiledRules {
 
 impl Fronts {
     // The rules that may match where a symbol is in front.
-    fn allowing(&self, symbol: Option<Symbol>) -> RuleSet {
+    fn allowing(&self, symbol: Option<Symbol>) -> RuleSet
+        ensures { (rules : List Rule) (n : ℕ) → length rules ≤ 32 → FrontsOf rules n self.now → RulesOut rules n symbol result }
+    {
         let Some(Symbol::Operator(operator)) = symbol else {
             return self.others;
         };
