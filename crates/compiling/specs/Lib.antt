@@ -2,3 +2,4 @@ pub mod Outlines
 pub mod Walking
 pub mod Compilable
 pub mod Chains
+pub mod FromRules

@@ -2,6 +2,7 @@
 #![tactic(auto)]
 
 mod chains;
+pub mod compiled_sheet;
 mod outline;
 mod planning;
 pub mod rules;

@@ -1,26 +1,25 @@
 -- The rules that may match where an operator stands, tried from the lowest on.
-use Rattle.std.proofs.Common.{◌≡◌, refl, sym, ◌∙◌, ap, subst, List, ◌⊎◌, Bool, true, false, cond, ◌==◌, ℕ, suc, ◌<◌, ◌≤◌, length, get_or, Some, None, Option, IsSome, MatchOption, ⊎_elim, arith, eqb-true, eq-eqb}
+use Rattle.std.proofs.Common.{◌≡◌, refl, sym, ◌∙◌, ap, subst, List, ◌⊎◌, Bool, true, false, cond, ◌==◌, ℕ, suc, ◌<◌, ◌≤◌, length, get_or, Some, None, Option, ⊎_elim, arith, eqb-true, eq-eqb}
 use Rattle.std.proofs.lemmas.Bool.{cases_lt}
 use Rattle.std.proofs.lemmas.List.{length-take}
-use Rattle.std.proofs.Math.Option.{none as nothing, some}
-use Rattle.fixed_vec.specs.FixedVec.{items}
+use Rattle.std.proofs.Math.Option.{none as nothing}
 use Rattle.terms.specs.declared.node.Node.{Node}
 use Rattle.terms.specs.declared.symbol.Symbol.{Symbol}
 use Rattle.terms.specs.declared.symbol.Symbol.TheVariants.{Variable, Instrument, Operator}
-use Rattle.terms.specs.Term.{Term, variable, instrument, apply, Terms}
+use Rattle.terms.specs.Term.{Term, variable, instrument, apply}
 use Rattle.terms.specs.Nodes.{vacant}
 use Rattle.terms.specs.Signature.{Sig}
 use Rattle.terms.specs.Rule.{Rule, OperatorFirst}
 use Rattle.rewriting.specs.Rules.{left_of, rule_at, RulesOf}
 use Rattle.rewriting.specs.Next.{matching, matching_all, contracted}
-use Rattle.node_store.specs.Placed.{Placed, link, Holds, IsTerm}
+use Rattle.node_store.specs.Placed.{Placed, IsTerm}
 use Rattle.node_store.specs.Loading.{arguments_of}
 use Rattle.compiled.specs.declared.CompiledRules.{CompiledRules}
 use Rattle.compiled.specs.declared.Plan.{Plan}
 use Rattle.compiled.specs.Compiled.{BeginsWith, FirstFrom, PlanOf, IsCompiled}
 use Rattle.matching.specs.Matching.{Matched, Decides}
 use Rattle.engine.specs.Searched.{Idle}
-use Rattle.engine.specs.Searching.{Begins, Shows, Fits, FitsOr}
+use Rattle.engine.specs.Searching.{Begins, Shows, Fits}
 use Rattle.engine.proofs.Nexts.{contracted_none, contracted_some, variable_none, instrument_none}
 use Rattle.engine.proofs.Tops.{arguments_are}
 

@@ -1,5 +1,5 @@
 -- Looking at a row, and the turns of a search.
-use Rattle.std.proofs.Common.{◌≡◌, refl, sym, ◌∙◌, ap, subst, List, [], ◌∷◌, Bool, true, false, ℕ, suc, ◌+◌, ◌<◌, ◌≤◌, length, get_or, Some, None, Option, is_some, arith}
+use Rattle.std.proofs.Common.{◌≡◌, refl, sym, ◌∙◌, ap, subst, List, [], ◌∷◌, false, ℕ, ◌+◌, ◌<◌, ◌≤◌, length, get_or, Some, None, Option, is_some, arith}
 use Rattle.terms.specs.declared.node.Node.{Node}
 use Rattle.terms.specs.declared.symbol.Symbol.{Symbol}
 use Rattle.terms.specs.Term.{Term}
@@ -16,9 +16,9 @@ use Rattle.compiled.specs.declared.CompiledRules.{CompiledRules}
 use Rattle.engine.specs.declared.visits.Visit.{Visit}
 use Rattle.engine.specs.declared.visits.Visit.TheVariants.{Fresh, Reached}
 use Rattle.engine.specs.Searched.{ahead, Idle, Seeking}
-use Rattle.engine.specs.Searching.{Prepared, Begins, Finds, Nearer, Looks, Searches, Sought, Starts}
+use Rattle.engine.specs.Searching.{Prepared, Begins, Finds, Looks, Searches, Starts}
 use Rattle.engine.proofs.Nexts.{bound_normal}
-use Rattle.engine.proofs.Seeks.{RowFirst, NodeFirst, seeking_turns, seeking_short, seeking_none, seeking_row, seeking_node, seeking_all, root_node}
+use Rattle.engine.proofs.Seeks.{RowFirst, seeking_turns, seeking_short, seeking_none, seeking_row, seeking_node, seeking_all, root_node}
 
 length-ahead : (l : Option ℕ) (vs : List Visit) → length vs ≤ length (ahead l vs)
 length-ahead None vs = omega arith

@@ -1,9 +1,6 @@
 -- The step that was found: whether there is room for it, and what is held and searched after it.
-use Rattle.std.proofs.Common.{◌≡◌, refl, sym, ◌∙◌, ap, subst, List, [], ◌∷◌, Bool, true, false, ℕ, suc, ◌+◌, ◌<◌, ◌≤◌, nat_le, length, Some, None, Option, IfNone, ⊎_elim, leb-true, leb-false, arith}
-use Rattle.std.proofs.Math.Option.{none as nothing}
-use Rattle.fixed_vec.specs.FixedVec.{items}
+use Rattle.std.proofs.Common.{◌≡◌, sym, ◌∙◌, subst, List, [], Bool, true, false, ℕ, suc, ◌+◌, ◌≤◌, nat_le, Some, None, Option, ⊎_elim, leb-true, leb-false, arith}
 use Rattle.terms.specs.declared.symbol.Symbol.{Symbol}
-use Rattle.terms.specs.declared.node.Node.{Node}
 use Rattle.terms.specs.Term.{Term, symbols}
 use Rattle.terms.specs.Signature.{Sig}
 use Rattle.terms.specs.Substitution.{fill}
@@ -12,7 +9,7 @@ use Rattle.traversal.specs.Walks.{most_symbols}
 use Rattle.rewriting.specs.Rules.{rule_at}
 use Rattle.rewriting.specs.Bindings.{bound}
 use Rattle.node_store.specs.Memory.{Memory}
-use Rattle.node_store.specs.Placed.{Placed, none, at, Holds, size, Held, also}
+use Rattle.node_store.specs.Placed.{Placed, Holds, size, Held, also}
 use Rattle.node_store.specs.Grafting.{Sub, here, under, later}
 use Rattle.node_store.proofs.Grafts.{sub_holds}
 use Rattle.node_store.proofs.Regrafting.{AtRoot, root_or_under}
@@ -26,7 +23,7 @@ use Rattle.stepping.specs.Stepping.{Stepped, Steps}
 use Rattle.engine.specs.declared.search.Hit.{Hit}
 use Rattle.engine.specs.declared.visits.Visit.{Visit}
 use Rattle.engine.specs.Searched.{Seeking}
-use Rattle.engine.specs.Searching.{Prepared, Sought, Onto, OntoOr}
+use Rattle.engine.specs.Searching.{Prepared, Sought, OntoOr}
 use Rattle.engine.specs.Revisits.{renewed, Revisits}
 use Rattle.engine.proofs.Seeks.{seeking_short}
 use Rattle.engine.proofs.Growths.{renewed_by_step, numbers_low}

@@ -1,5 +1,5 @@
 -- A reduction step by step, and where it stops.
-use Rattle.std.proofs.Common.{◌≡◌, ◌≢◌, refl, sym, ◌∙◌, ap, subst, List, [], Bool, true, false, ℕ, suc, ◌+◌, ◌<◌, ◌≤◌, length, Some, None, Option, ⊎_elim, arith}
+use Rattle.std.proofs.Common.{◌≡◌, refl, sym, ◌∙◌, subst, List, [], true, false, ℕ, ◌+◌, ◌<◌, ◌≤◌, length, Some, None, Option, ⊎_elim, arith}
 use Rattle.std.proofs.lemmas.Bool.{cases_lt}
 use Rattle.std.proofs.Math.Option.{none as nothing, some}
 use Rattle.terms.specs.declared.symbol.Symbol.{Symbol}
@@ -11,7 +11,7 @@ use Rattle.rewriting.specs.Rules.{RulesOf}
 use Rattle.rewriting.specs.Next.{next, run}
 use Rattle.rewriting.proofs.Filling.{none_some}
 use Rattle.rewriting.proofs.Converging.{run_on, run_then}
-use Rattle.machine.specs.Reducing.{finished, spent, short, reduction}
+use Rattle.machine.specs.Reducing.{reduction}
 use Rattle.machine.proofs.Reducing.{GoesByNext, ByNext, reduces, one_reduction}
 use Rattle.node_store.specs.Memory.{Memory}
 use Rattle.node_store.specs.Placed.{Placed, Held, also}
@@ -24,7 +24,7 @@ use Rattle.engine.specs.declared.reduce.Reduced.{Reduced}
 use Rattle.engine.specs.declared.reduce.Stop.TheVariants.{Finished, Spent, Short}
 use Rattle.engine.specs.declared.search.Hit.{Hit}
 use Rattle.engine.specs.declared.visits.Visit.{Visit}
-use Rattle.engine.specs.Searching.{Prepared, Onward, Sought, SoughtOr, Searches, Onto, OntoOr, Makes, Starts}
+use Rattle.engine.specs.Searching.{Prepared, Searches, Onto, Makes, Starts}
 use Rattle.engine.specs.Reducing.{answered, After, Reduces}
 
 -- so many next steps are made, and the visits search the term after them

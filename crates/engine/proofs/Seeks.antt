@@ -1,28 +1,27 @@
 -- The visits that search a held term: the first of them, and how many there are.
-use Rattle.std.proofs.Common.{◌≡◌, refl, sym, ◌∙◌, ap, subst, List, [], ◌∷◌, ℕ, suc, ◌+◌, ◌*◌, ◌<◌, ◌≤◌, length, get_or, Some, Option, arith}
+use Rattle.std.proofs.Common.{◌≡◌, refl, sym, ◌∙◌, ap, subst, List, [], ◌∷◌, ℕ, suc, ◌+◌, ◌*◌, ◌≤◌, length, get_or, Some, Option, arith}
 use Rattle.std.proofs.Math.Option.{none as nothing, some}
 use Rattle.terms.specs.declared.node.Node.{Node}
 use Rattle.terms.specs.declared.symbol.Symbol.{Symbol}
-use Rattle.terms.specs.Term.{Term, variable, instrument, apply, Terms, nil, cons, symbols, symbols_in}
+use Rattle.terms.specs.Term.{Term, variable, instrument, apply}
 use Rattle.terms.specs.Nodes.{vacant}
 use Rattle.terms.specs.Signature.{Sig}
 use Rattle.terms.specs.Rule.{Rule}
 use Rattle.traversal.specs.Walks.{most_symbols}
 use Rattle.rewriting.specs.Next.{contracted, next, next_in}
-use Rattle.rewriting.proofs.Filling.{none_some}
 use Rattle.node_store.specs.Memory.{Memory}
-use Rattle.node_store.specs.Placed.{Placed, none, at, link, Holds, occ, size, IsTerm, AreTerms, Held, also}
+use Rattle.node_store.specs.Placed.{Placed, none, at, link, occ, size, IsTerm, Held, also}
 use Rattle.node_store.specs.Loading.{arguments_of}
-use Rattle.node_store.specs.Grafting.{graft, Sub, here, under, later}
+use Rattle.node_store.specs.Grafting.{graft, Sub, here, under}
 use Rattle.node_store.proofs.Grafts.{sub_occ, sub_holds, sub_node, graft-here, graft-there}
 use Rattle.node_store.proofs.Counting.{all_nodes}
 use Rattle.compiled.specs.declared.CompiledRules.{CompiledRules}
 use Rattle.engine.specs.declared.visits.Visit.{Visit}
 use Rattle.engine.specs.declared.visits.Visit.TheVariants.{Fresh, Reached}
-use Rattle.engine.specs.Searched.{ahead, Idle, Searched, through, reached, Seeking, below, finished, Renewed, quiet, again}
+use Rattle.engine.specs.Searched.{ahead, Idle, Seeking, below, finished, Renewed, quiet, again}
 use Rattle.engine.specs.Searching.{Prepared, Shows, Nearer, Onward}
 use Rattle.engine.proofs.Nexts.{next_whole, next_inside}
-use Rattle.engine.proofs.Tops.{arguments_are, Opening, Onward as OnwardIn, Found, Top, silent, row, node, top, few_turns, short_stack, long_stack, whole_row}
+use Rattle.engine.proofs.Tops.{arguments_are, Onward as OnwardIn, Found, Top, silent, row, node, top, few_turns, short_stack, long_stack, whole_row}
 
 no_sub : {p : ℕ} {s : Option Symbol} {ks : Placed} → Sub p s ks none → ⊥
 no_sub x = elim x [ ]

@@ -7,7 +7,7 @@ use Rattle.terms.specs.Term.{Term, variable, instrument, apply, Terms, nil, cons
 use Rattle.terms.specs.Nodes.{vacant}
 use Rattle.terms.specs.Rule.{Rule}
 use Rattle.rewriting.specs.Next.{contracted, next, next_in}
-use Rattle.node_store.specs.Placed.{Placed, none, at, link, Holds, hit, occ, size, IsTerm, AreTerms}
+use Rattle.node_store.specs.Placed.{Placed, none, at, link, Holds, occ, size, IsTerm, AreTerms}
 use Rattle.node_store.specs.Loading.{arguments_of}
 use Rattle.node_store.specs.Grafting.{graft, Sub, here, under, later}
 use Rattle.node_store.proofs.Grafts.{sub_occ, graft-here, graft-there, graft-none}

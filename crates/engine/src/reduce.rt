@@ -1,4 +1,4 @@
-ghost use Rattle.std.specs.Prelude.{◌≡◌};
+ghost use Rattle.std.specs.Prelude.{◌≡◌, []};
 ghost use Rattle.fixed_vec.specs.FixedVec.{items, content};
 ghost use Rattle.node_store.specs.Memory.{memory};
 ghost use Rattle.engine.specs.Reducing.{Reduces};
@@ -34,7 +34,8 @@ pub struct Reduced {
 pub fn reduce(store: &mut Store, rules: &CompiledRules, place: u16, allowed: u32) -> Reduced
     ensures { Reduces (memory store.old) rules.now place allowed (memory store.new) result }
 {
-    let mut todo = start(store, place);
+    let mut todo = Visits::new(Visit::Fresh(0));
+    start(store, place, &mut todo);
     let mut scratch = Scratch::new();
     let mut places = Places::new(0);
     for steps in 0..allowed {
@@ -55,14 +56,12 @@ pub fn reduce(store: &mut Store, rules: &CompiledRules, place: u16, allowed: u32
     Reduced { steps, stop }
 }
 
-// The visits to a term that nobody has looked at.
-fn start(store: &Store, place: u16) -> Visits
-    ensures { Starts (memory store.now) place (content result) }
+// Puts visits to a term that nobody has looked at on the empty stack.
+fn start(store: &Store, place: u16, todo: &mut Visits)
+    ensures { content todo.old ≡ [] → Starts (memory store.now) place (content todo.new) }
 {
-    let mut todo = Visits::new(Visit::Reached(place));
-    put(&mut todo, Visit::Reached(place));
-    put_row(&mut todo, store.node(place).first);
-    todo
+    put(todo, Visit::Reached(place));
+    put_row(todo, store.node(place).first);
 }
 
 // Makes the step that was found, if there is room, and leaves visits to what it makes.

@@ -6,8 +6,7 @@ pub mod cases;
 #[cfg(test)]
 mod tests {
     use crate::cases::CASES;
-    use compiled::CompiledRules;
-    use compiling::rules::compile;
+    use compiling::compiled_sheet::CompiledSheet;
     use engine::reduce::Stop;
     use pool::Pool;
     use reader::ticket::read_ticket;
@@ -43,7 +42,7 @@ mod tests {
     // The text of a ticket's normal form, at the front of the buffer.
     fn form<'b>(
         signature: &Signature,
-        rules: &CompiledRules,
+        rules: &CompiledSheet,
         ticket: &str,
         nodes: &mut [Node],
         buffer: &'b mut [u8],
@@ -69,7 +68,7 @@ mod tests {
             let (_caption, front) = head.split_once("||").ok_or("no front")?;
             let mut sheet = Sheet::new();
             read(rt.alloc(), front, &mut sheet)?;
-            let rules = compile(&sheet);
+            let rules = CompiledSheet::of(&sheet);
             for case in cases.split('\n') {
                 let (ticket, expected) = case.split_once('|').ok_or("no bar")?;
                 let found = form(sheet.signature(), &rules, ticket, &mut nodes, &mut buffer)?;

@@ -1,7 +1,7 @@
 // The rules of a sheet, and lent memory in which tickets are reduced by them.
 use crate::answer::{Answer, Held};
 use crate::request::{MOST_NODES, Request};
-use compiled::CompiledRules;
+use compiling::compiled_sheet::CompiledSheet;
 use console::line::Line;
 use pool::Pool;
 use pool::loading::Unloaded;
@@ -19,7 +19,7 @@ pub(crate) const TEXT_BYTES: usize = 14 * MOST_NODES;
 #[derive(Drop)]
 pub(crate) struct Desk<'m> {
     pub signature: &'m Signature,
-    pub rules: &'m CompiledRules,
+    pub rules: &'m CompiledSheet,
     pub nodes: &'m mut [Node],
     pub buffer: &'m mut [u8],
 }

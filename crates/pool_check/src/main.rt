@@ -2,7 +2,7 @@
 // into a fresh pool of so many nodes, after so many steps at most. No admission is asked.
 #![tactic(auto)]
 
-use compiling::rules::compile;
+use compiling::compiled_sheet::CompiledSheet;
 use console::answer::write_answer;
 use console::line::Line;
 use console::opening::open;
@@ -54,7 +54,7 @@ fn main(rt: HostRuntime) -> anyhow::Result<()> {
     if opening.is_ok() {
         let mut desk = Desk {
             signature: sheet.signature(),
-            rules: &compile(&sheet),
+            rules: &CompiledSheet::of(&sheet),
             nodes: &mut [Node::VACANT; MOST_NODES],
             buffer: &mut [0; TEXT_BYTES],
         };

@@ -1,60 +1,58 @@
 -- Making a right side's row of arguments from its last piece to its first.
-use Rattle.std.proofs.Common.{◌≡◌, ℕ, suc, ◌+◌, ◌-◌, ◌<◌, ◌≤◌, Bool, true, false, ◌||◌, List, [], ◌∷◌, ◌++◌, length, get_or, drop, Some, None, Option, Result, is_some, sym, refl, ap, ◌∙◌, subst, append_assoc, append-nil, arith}
+use Rattle.std.proofs.Common.{◌≡◌, ℕ, suc, ◌+◌, ◌-◌, ◌<◌, ◌≤◌, true, false, List, [], ◌∷◌, ◌++◌, length, get_or, Some, None, Option, sym, refl, ap, ◌∙◌, subst, append_assoc, append-nil, arith}
 use Rattle.std.proofs.lemmas.List.{length-append, get_or-drop}
 use Rattle.std.specs.List.{cons_option}
-use Rattle.std.specs.Result.{result_ok}
-use Rattle.fixed_vec.specs.declared.Full.{Full}
-use Rattle.fixed_vec.specs.FixedVec.{items, Added, Removed}
-use Rattle.terms.specs.Term.{Term, variable, instrument, apply, Terms, nil, cons, symbols}
-use Rattle.terms.specs.Substitution.{fill, occurrences, occurrences_in}
+use Rattle.fixed_vec.specs.FixedVec.{items, Removed}
+use Rattle.terms.specs.Term.{Term, variable, instrument, apply, Terms, cons, symbols}
+use Rattle.terms.specs.Substitution.{fill, occurrences}
 use Rattle.terms.specs.Signature.{Sig}
-use Rattle.terms.specs.Rule.{Rule, RuleOf, OperatorFirst}
+use Rattle.terms.specs.Rule.{Rule, RuleOf}
 use Rattle.traversal.specs.Walks.{most_symbols}
 use Rattle.rewriting.specs.Bindings.{Bindings, bound}
 use Rattle.rewriting.proofs.Matching.{binds}
 use Rattle.node_store.specs.Memory.{Memory}
-use Rattle.node_store.specs.Placed.{Placed, none, link, Held}
+use Rattle.node_store.specs.Placed.{Placed, Held, link}
 use Rattle.node_store.specs.Work.{Work, size_all}
 use Rattle.node_store.specs.Loading.{arguments_of}
-use Rattle.compiled.specs.Symbols.{parts_of, parts_under, any, has_arguments, is_variable, has_variable, Narrow, AllNarrow}
+use Rattle.compiled.specs.Symbols.{parts_of, parts_under, any, has_arguments, is_variable, has_variable, AllNarrow}
 use Rattle.compiled.specs.declared.Piece.{Piece}
 use Rattle.compiled.specs.declared.Plan.{Plan}
-use Rattle.compiled.specs.Plans.{source_of, pieces_of, pieces_under, Planned}
+use Rattle.compiled.specs.Plans.{source_of, pieces_of, Planned}
 use Rattle.matching.specs.Peeling.{Peeled}
 use Rattle.matching.proofs.Peelings.{Beside, peeled_beside}
 use Rattle.matching.proofs.Onwards.{links}
 use Rattle.stepping.specs.Copying.{Taken}
 use Rattle.stepping.specs.Growing.{Grown}
 use Rattle.stepping.specs.Building.{MadeFrom, rows_in, BuiltRow}
-use Rattle.stepping.proofs.Occurring.{occurs_in}
-use Rattle.stepping.proofs.Reading.{Read, read_all, pieces_all, pieces_left, pieces_term, parts_term, as_many_under, occurs_under, read_has, narrow_under, read_narrow, LastRead, last_read, first_read, Skips}
-use Rattle.stepping.proofs.Keeping.{peels_binds, weights, weights-term}
-use Rattle.stepping.proofs.Forests.{GrownAll, no_row, row, Forest, forest_skips, taken_link, grown_any, has_any, links_shorter}
-use Rattle.stepping.proofs.Pieces.{Put, Pending, put_piece}
-use Rattle.stepping.proofs.Copies.{pushed_on, popped_link, no_items}
+use Rattle.stepping.proofs.Reading.{Read, read_all, pieces_all, pieces_left, pieces_term, as_many_under, term_occurs, read_has, narrow_under, read_narrow, LastRead, last_read, first_read}
+use Rattle.matching.proofs.Copies.{filled_symbols}
+use Rattle.matching.proofs.Needs.{parts_same, left_times}
+use Rattle.matching.proofs.Sums.{times_has}
+use Rattle.stepping.proofs.Keeping.{beside_binds, weights}
+use Rattle.stepping.proofs.Forests.{GrownAll, no_row, row, Forest, forest_skips, taken_link, grown_any, has_any, longer}
+use Rattle.stepping.proofs.Pieces.{put_piece}
+use Rattle.stepping.proofs.Copies.{popped_link, no_items}
 
 -- what is known of a rule, its plan, and the places and rows that its left side was found at
 pub record Ready (p : Plan) (rule : Rule) (places : List ℕ) (kp : Placed) (kept : List Placed) (v : Bindings) : Type 0 where
   pub beside : Beside kp (parts_under rule.left) places kept v
   pub one : (x : ℕ) → binds x v ≤ 1
-  pub inside : (x : ℕ) → 1 ≤ occurrences_in x (arguments_of rule.right) → has_variable x (parts_under rule.left) ≡ true
+  pub inside : (x : ℕ) → 1 ≤ occurrences x rule.right → has_variable x (parts_under rule.left) ≡ true
   pub narrow : AllNarrow (arguments_of rule.right)
   pub pieces : items p.pieces ≡ pieces_all (parts_under rule.left) (rule.right ∷ []) (arguments_of rule.right ∷ [])
   pub many : length (items p.pieces) ≡ length (parts_of (arguments_of rule.right))
 
-operator_occurs : (x : ℕ) (t : Term) → OperatorFirst t → occurrences x t ≡ occurrences_in x (arguments_of t)
-operator_occurs x (variable y) f = absurd f
-operator_occurs x (instrument n) f = absurd f
-operator_occurs x (apply f ts) o = refl
+all_beside : (left : Term) (places : List ℕ) (kp : Placed) (kept : List Placed) (v : Bindings) → Peeled (arguments_of left) kp places kept v → Beside kp (parts_under left) places kept v
+all_beside left places kp kept v e = subst (λ l. Beside kp l places kept v) (sym (parts_same left)) (peeled_beside e)
 
 pub ready : (p : Plan) (sig : Sig) (rule : Rule) (places : List ℕ) (kp : Placed) (kept : List Placed) (v : Bindings) → RuleOf sig rule → Planned rule p → Peeled (arguments_of rule.left) kp places kept v → Ready p rule places kp kept v
 ready p sig rule places kp kept v r d e = record {
-  beside = subst (λ l. Beside kp l places kept v) (sym (parts_term rule.left)) (peeled_beside e);
-  one = λ x. let b = peels_binds x (arguments_of rule.left ∷ []) (kp ∷ []) places kept v e in omega (arith, r.linear x, operator_occurs x rule.left r.operator_first);
-  inside = λ x o. let u = occurs_under x rule.right in let b = r.bound x (omega arith) in subst (λ l. has_variable x l ≡ true) (sym (parts_term rule.left)) (occurs_in x (arguments_of rule.left) (omega (arith, operator_occurs x rule.left r.operator_first)));
+  beside = all_beside rule.left places kp kept v e;
+  one = λ x. let b = beside_binds x kp (parts_under rule.left) places kept v (all_beside rule.left places kp kept v e) in omega (arith, r.linear x, left_times sig rule r x);
+  inside = λ x o. let b = r.bound x o in times_has x (parts_under rule.left) (omega (arith, left_times sig rule r x));
   narrow = narrow_under rule.right d.narrow;
   pieces = d.pieces ∙ pieces_term (parts_under rule.left) (rule.right ∷ []) rule.right ∙ sym (append-nil (pieces_of (parts_under rule.left) (rule.right ∷ []) (arguments_of rule.right)));
-  many = ap length d.pieces ∙ as_many_under (parts_under rule.left) (rule.right ∷ []) rule.right ∙ ap length (parts_term rule.right);
+  many = ap length d.pieces ∙ as_many_under (parts_under rule.left) (rule.right ∷ []) rule.right ∙ ap length (parts_same rule.right);
 }
 
 -- the pieces from a number on are made, and their rows stand
@@ -73,7 +71,7 @@ pub record Building (m₀ : Memory) (p : Plan) (rule : Rule) (kept : List Placed
 pieces_weigh : (v : Bindings) (t : Term) (n : ℕ) → symbols (fill (bound v) t) ≤ suc n → weights v (parts_of (arguments_of t)) ≤ n
 pieces_weigh v (variable y) n e = omega arith
 pieces_weigh v (instrument k) n e = omega arith
-pieces_weigh v (apply f ts) n e = omega (arith, weights-term v (apply f ts))
+pieces_weigh v (apply f ts) n e = omega (arith, filled_symbols (bound v) (apply f ts))
 
 no_variable : (t : Term) → 0 < length (parts_of (arguments_of t)) → (x : ℕ) → is_variable x t ≡ false
 no_variable (variable y) e x = absurd (let z : ⊥ = omega arith in z)
@@ -101,22 +99,22 @@ module _ (p : Plan) (rule : Rule) (places : List ℕ) (kp : Placed) (kept : List
   pub build_starts : (n : ℕ) (g : Placed) (stack made : List ℕ) → n ≡ length (items p.pieces) → stack ≡ [] → made ≡ [] → Work m₀ h (rows_in (rule.right ∷ parts_under rule.right) v kept) g
       → symbols (fill (bound v) rule.right) ≤ suc (m₀.free + size_all (rows_in (rule.right ∷ parts_under rule.right) v kept)) → Building m₀ p rule kept v h n m₀ stack made
   build_starts n g stack made e s d w room =
-      let few_parts = ap (λ l. size_all (rows_in (rule.right ∷ l) v kept)) (parts_term rule.right) in
+      let few_parts = ap (λ l. size_all (rows_in (rule.right ∷ l) v kept)) (parts_same rule.right) in
       let no_made = ap length d in
       record {
         earlier = parts_of (arguments_of rule.right);
         rows = [];
         read = read_all (arguments_of rule.right);
         many = sym (e ∙ a.many);
-        forest = record { rows = []; gone = g; grown = subst (GrownAll (bound v) [] []) (sym d) no_row; stacked = s; work = subst (λ l. Work m₀ h (rows_in (rule.right ∷ l) v kept) g) (parts_term rule.right) w };
+        forest = record { rows = []; gone = g; grown = subst (GrownAll (bound v) [] []) (sym d) no_row; stacked = s; work = subst (λ l. Work m₀ h (rows_in (rule.right ∷ l) v kept) g) (parts_same rule.right) w };
         room = pieces_weigh v rule.right _ (omega arith);
         short = let z = ap length s in omega arith;
         count = omega arith;
         long = refl;
       }
 
-  module _ (i : ℕ) (m k : Memory) (stack made s₁ s₂ : List ℕ) (first next : Option ℕ) (x : Piece) (r : Option ℕ) (pieces : List Piece) (some : 0 < i) (all : pieces ≡ items p.pieces) (is : (d : Piece) → x ≡ get_or pieces (i - 1) d)
-      (t₁ : Taken x.has_first stack s₁ first) (t₂ : Taken x.has_next s₁ s₂ next) (piece : MadeFrom m x.source first next places k r) (b : Building m₀ p rule kept v h i m stack made) where
+  module _ (i : ℕ) (m k : Memory) (stack made s₁ s₂ : List ℕ) (first next : Option ℕ) (r : Option ℕ) (pieces : List Piece) (d : Piece) (some : 0 < i) (all : pieces ≡ items p.pieces)
+      (t₁ : Taken (get_or pieces (i - 1) d).has_first stack s₁ first) (t₂ : Taken (get_or pieces (i - 1) d).has_next s₁ s₂ next) (piece : MadeFrom m (get_or pieces (i - 1) d).source first next places k r) (b : Building m₀ p rule kept v h i m stack made) where
     -- the piece before is made
     pub build_step : NextBuilt m₀ p rule kept v h i k s₂ made r
     build_step = from_last (last_read (arguments_of rule.right) b.earlier b.rows (i - 1) (let n = b.many in omega arith) b.read)
@@ -130,28 +128,28 @@ module _ (p : Plan) (rule : Rule) (places : List ℕ) (kp : Placed) (kept : List
             count : length l.earlier ≡ i - 1
             count = let n = b.many in let e = ap length l.is in omega (arith, length-append l.earlier (l.term ∷ []))
 
-            piece_is : x ≡ record { source = source_of (parts_under rule.left) (rule.right ∷ l.earlier) l.term; has_first = has_arguments l.term; has_next = any l.later }
+            piece_is : get_or pieces (i - 1) d ≡ record { source = source_of (parts_under rule.left) (rule.right ∷ l.earlier) l.term; has_first = has_arguments l.term; has_next = any l.later }
             piece_is =
                 let whole = pieces_all (parts_under rule.left) (rule.right ∷ []) (arguments_of rule.right ∷ []) in
                 let n : i - 1 ≡ length l.earlier + 0 = omega (arith, count) in
-                is x ∙ (λ d. get_or ((all ∙ a.pieces) d) (n d) x) ∙ sym (get_or-drop (length l.earlier) whole 0 x) ∙ ap (λ ps. get_or ps 0 x) (pieces_left (arguments_of rule.right) (parts_under rule.left) (rule.right ∷ []) l.earlier (cons l.term l.later ∷ l.others) l.was)
+                (λ e. get_or ((all ∙ a.pieces) e) (n e) d) ∙ sym (get_or-drop (length l.earlier) whole 0 d) ∙ ap (λ ps. get_or ps 0 d) (pieces_left (arguments_of rule.right) (parts_under rule.left) (rule.right ∷ []) l.earlier (cons l.term l.later ∷ l.others) l.was)
 
             go : (rows : List Placed) (md : List ℕ) → made ≡ md → GrownAll (bound v) (arguments_of l.term ∷ l.later ∷ l.others) rows md → stack ≡ links rows → Work m h (rows ++ rows_in (rule.right ∷ b.earlier) v kept) f.gone → NextBuilt m₀ p rule kept v h i k s₂ made r
             go rows md e (row {q = q} {ps = ps} y (row {q = c} {ps = rs} {rs = more} {qs = forest} z others)) st wk =
-                let t₃ = taken_link x.has_first q (links (c ∷ forest)) stack s₁ first st (ap (λ (p : Piece). p.has_first) piece_is ∙ has_any l.term ∙ grown_any (bound v) (arguments_of l.term) q ps y) t₁ in
-                let t₄ = taken_link x.has_next c (links forest) s₁ s₂ next t₃.1 (ap (λ (p : Piece). p.has_next) piece_is ∙ grown_any (bound v) l.later c rs z) t₂ in
+                let t₃ = taken_link (get_or pieces (i - 1) d).has_first q (links (c ∷ forest)) stack s₁ first st (ap (λ (p : Piece). p.has_first) piece_is ∙ has_any l.term ∙ grown_any (bound v) (arguments_of l.term) q ps y) t₁ in
+                let t₄ = taken_link (get_or pieces (i - 1) d).has_next c (links forest) s₁ s₂ next t₃.1 (ap (λ (p : Piece). p.has_next) piece_is ∙ grown_any (bound v) l.later c rs z) t₂ in
                 let long = b.long in
                 let count_made = b.count in
                 let many = a.many in
                 let short = b.short in
                 let stacked = ap length st in
                 let left = ap length t₄.1 in
-                let less = links_shorter q c forest in
+                let less = longer (link q) (link c) (links forest) in
                 let narrow = (read_narrow (arguments_of rule.right) l.earlier (cons l.term l.later ∷ l.others) a.narrow l.was).0.0 in
                 let source = ap (λ (p : Piece). p.source) piece_is in
                 let put = put_piece (parts_under rule.left) rule.right places kept v kp a.beside a.one (no_variable rule.right (omega arith)) h m k l.earlier l.later q c forest ps rs f.gone first next r (sym t₃.0) (sym t₄.0) (omega arith) l.term (record {
                   work = subst (λ bs. Work m h (q ∷ c ∷ (forest ++ rows_in (rule.right ∷ bs) v kept)) f.gone) l.is wk;
-                  inside = λ y e. a.inside y (read_has y (arguments_of rule.right) b.earlier b.rows b.read (ap (has_variable y) l.is ∙ e));
+                  inside = λ y e. a.inside y (omega (arith, read_has y (arguments_of rule.right) b.earlier b.rows b.read (ap (has_variable y) l.is ∙ e), term_occurs y rule.right));
                   room = subst (λ bs. weights v bs ≤ m.free + size_all (rows_in (rule.right ∷ bs) v kept)) l.is b.room;
                 }) y z narrow (subst (λ s. MadeFrom m s first next places k r) source piece) in
                 record {

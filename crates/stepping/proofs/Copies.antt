@@ -19,24 +19,19 @@ use Rattle.node_store.proofs.Counting.{all_nodes}
 use Rattle.node_store.proofs.Standing.{term_size}
 use Rattle.node_store.proofs.Tracing.{small}
 use Rattle.matching.specs.Surveying.{in_order}
+use Rattle.matching.proofs.Sizings.{in_order_long}
 use Rattle.matching.proofs.Onwards.{links}
-use Rattle.stepping.specs.Copying.{Taken, Repeated, Repeats, Copied}
+use Rattle.stepping.specs.Copying.{Taken, Repeats, Copied}
 use Rattle.stepping.proofs.Reading.{Skips, same, one}
-use Rattle.stepping.proofs.Forests.{taken_link, links_shorter}
+use Rattle.stepping.proofs.Forests.{taken_link, longer}
 
-few_nodes : (m : Memory) → length m.nodes ≤ most_symbols → length m.nodes ≤ 65536
+pub few_nodes : (m : Memory) → length m.nodes ≤ most_symbols → length m.nodes ≤ 65536
 few_nodes m few = let n = small (length m.nodes) few in omega arith
 
 -- an item is pushed where there is room
 pub pushed_on : (r : Result (Unit {0}) Full) (n : ℕ) (before : List ℕ) (x : ℕ) (after : List ℕ) → length before < n → Added n before x after r → (result_ok r ≡ Some tt) × (after ≡ x ∷ before)
 pushed_on (Ok u) n before x after short a = (refl, a)
 pushed_on (Err e) n before x after short a = absurd (let z : ⊥ = omega (arith, a.1) in z)
-
-longer : (o p : Option ℕ) (l : List ℕ) → length l ≤ length (cons_option o (cons_option p l))
-longer None None l = omega arith
-longer None (Some y) l = omega arith
-longer (Some x) None l = omega arith
-longer (Some x) (Some y) l = omega arith
 
 module _ (m k : Memory) (n : Node) (p : ℕ) (before s₁ s₂ : List ℕ) (wanted then : Bool) (first next : Option ℕ) (node : n ≡ get_or m.nodes p vacant) (w : wanted ≡ is_some n.first) (u : then ≡ is_some n.next) (t₁ : Taken wanted before s₁ first) (t₂ : Taken then s₁ s₂ next) where
   -- what is taken off the stack for a node's arguments and its siblings
@@ -197,10 +192,6 @@ SameRows [] (r ∷ rs) = ⊥
 SameRows (q ∷ qs) [] = ⊥
 SameRows (q ∷ qs) (r ∷ rs) = Same q r × SameRows qs rs
 
-in_order-long : (q : Placed) → length (in_order q) ≡ size q
-in_order-long none = refl
-in_order-long (at i s ks us) = let a = in_order-long ks in let b = in_order-long us in omega (arith, length-append (in_order ks) (in_order us))
-
 -- rows stand that are the same as those that are left of the source, beside others, and a stack has the links to them
 pub record CopiedRows (m : Memory) (h : Held) (others : List Placed) (stack : List ℕ) (sources : List Placed) : Type 0 where
   pub rows : List Placed
@@ -246,7 +237,7 @@ module _ (m₀ : Memory) (h : Held) (p : ℕ) (s : Option Symbol) (ks : Placed) 
     copied = record { rows = []; gone = g; same_rows = tt; stacked = f; work = work };
     free = omega arith;
     sum = omega arith;
-    whole = w ∙ ap length e ∙ in_order-long ks;
+    whole = w ∙ ap length e ∙ in_order_long ks;
     short = let z = ap length f in omega arith;
     long = refl;
   }
@@ -280,9 +271,9 @@ module _ (m₀ : Memory) (h : Held) (p : ℕ) (s : Option Symbol) (ks : Placed) 
             let short = old.short in
             let free = old.free in
             let stack_long = ap length st in
-            let less = links_shorter a d rows in
+            let less = longer (link a) (link d) (links rows) in
             let z = made h named.0.0.0 a d (links rows) (rows ++ (b ∷ at p s ks none ∷ qs)) c.gone (ap (λ (n : Node). n.symbol) node ∙ named.0.0.1) (ap (λ (n : Node). is_some n.first) node ∙ same_some js a alike.0) (ap (λ (n : Node). is_some n.next) node ∙ same_some us d alike.1.0) st (omega arith) wk (omega arith) (omega (arith, old.long)) in
-            let new = ap length z.stacked in
+            let new = ap length {y = z.place ∷ links rows} z.stacked in
             record {
               answer = z.answer;
               copying = record {

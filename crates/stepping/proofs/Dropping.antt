@@ -1,15 +1,13 @@
 -- Giving back the rows of variables that the right side does not have.
-use Rattle.std.proofs.Common.{◌≡◌, ℕ, suc, ◌+◌, ◌≤◌, Bool, true, false, cond, List, [], ◌∷◌, ◌++◌, map, length, get_or, set, None, Option, sym, refl, ap, ◌∙◌, subst, append_assoc, ⊎_elim, ◌⊎◌, arith}
+use Rattle.std.proofs.Common.{◌≡◌, ℕ, suc, ◌+◌, ◌≤◌, Bool, true, false, cond, List, [], ◌∷◌, ◌++◌, map, length, get_or, None, Option, sym, refl, ap, ◌∙◌, subst, append_assoc, ⊎_elim, ◌⊎◌, arith}
 use Rattle.std.proofs.lemmas.List.{length-set, length-append}
 use Rattle.std.proofs.Math.Seq.{get_or-append_seam}
 use Rattle.terms.specs.declared.symbol.Symbol.{Symbol}
-use Rattle.terms.specs.Term.{Term, variable, instrument, apply}
+use Rattle.terms.specs.Term.{Term}
 use Rattle.rewriting.specs.Bindings.{Bindings}
 use Rattle.node_store.specs.Memory.{Memory, given}
-use Rattle.node_store.specs.Placed.{Placed, none, at, occ, size, IsTerm, Held}
-use Rattle.node_store.specs.Work.{Work, occ_all}
-use Rattle.node_store.proofs.Placing.{hit_self}
-use Rattle.node_store.proofs.Helds.{hit_none, hit_yes}
+use Rattle.node_store.specs.Placed.{Placed, none, at, size, Held}
+use Rattle.node_store.specs.Work.{Work}
 use Rattle.node_store.proofs.Rows.{to_front, from_front, row_given}
 use Rattle.compiled.specs.Symbols.{has_variable}
 use Rattle.compiled.specs.Plans.{dropped_from}
@@ -19,19 +17,7 @@ use Rattle.stepping.specs.Keeping.{rows_for}
 use Rattle.stepping.specs.Parting.{without}
 use Rattle.stepping.proofs.Parting.{Loose}
 
--- the size that is found at a place
-found_size : (xs ys : List Placed) (i : ℕ) (s : Option Symbol) (ks : Placed) → occ_all i (xs ++ at i s ks none ∷ ys) ≤ 1 → size_at (xs ++ at i s ks none ∷ ys) i ≡ 1 + size ks
-found_size [] ys i s ks o = ap (λ c. cond c (suc (size ks + 0)) (size_at ys i)) (hit_yes i i refl) ∙ omega arith
-found_size (none ∷ xs) ys i s ks o = found_size xs ys i s ks (omega arith)
-found_size (at j t js us ∷ xs) ys i s ks o =
-    let e = once xs ys i s ks in
-    ap (λ c. cond c (suc (size js + size us)) (size_at (xs ++ at i s ks none ∷ ys) i)) (hit_none i j (omega arith)) ∙ found_size xs ys i s ks (omega arith)
-  where
-    once : (xs ys : List Placed) (i : ℕ) (s : Option Symbol) (ks : Placed) → 1 ≤ occ_all i (xs ++ at i s ks none ∷ ys)
-    once [] ys i s ks = let h = hit_self i in omega arith
-    once (x ∷ xs) ys i s ks = let h = once xs ys i s ks in omega arith
-
-module _ (h : Held) (w : Placed) (right : List Term) (places : List ℕ) (all : List Placed) (one : (j : ℕ) → occ_all j all ≤ 1) where
+module _ (h : Held) (w : Placed) (right : List Term) (places : List ℕ) (all : List Placed) (sized : (xs ys : List Placed) (i : ℕ) (s : Option Symbol) (ks : Placed) → all ≡ xs ++ at i s ks none ∷ ys → size_at all i ≡ suc (size ks)) where
   pub rows_given : (l : List Term) (ps : List ℕ) (kept : List Placed) (v : Bindings) (k : ℕ) (pre : List ℕ) (xs others : List Placed) (g : Placed) (m : Memory) → Beside w l ps kept v → k ≡ length pre → places ≡ pre ++ ps → all ≡ xs ++ kept → length m.nodes ≤ 65536 → Work m h (kept ++ others) g
       → Loose m h (rows_for (λ x. has_variable x right) v kept ++ others) (without m (dropped_from k l right) (map (λ k. size_at all (get_or places k 0)) (dropped_from k l right)) places)
   rows_given l ps kept v k pre xs others g m nothing n e a few z = record { gone = g; work = z; long = refl }
@@ -58,8 +44,8 @@ module _ (h : Held) (w : Placed) (right : List Term) (places : List ℕ) (all : 
       stands : get_or places k 0 ≡ q
       stands = (λ d. get_or (e d) (n d) 0) ∙ get_or-append_seam pre q ps′ 0
 
-      sized : sizes k ≡ 1 + size ks
-      sized = let o = one q in let c = ap (occ_all q) a in (λ d. size_at (a d) (stands d)) ∙ found_size xs kept′ q s ks (omega arith)
+      size_is : sizes k ≡ 1 + size ks
+      size_is = let z = sized xs kept′ q s ks a in let y = ap (size_at all) stands in omega arith
 
       rest : List Placed
       rest = rows_for (λ x. has_variable x right) v′ kept′
@@ -73,7 +59,7 @@ module _ (h : Held) (w : Placed) (right : List Term) (places : List ℕ) (all : 
           record { gone = y.gone; work = to_front (without m numbers (map sizes numbers) places) h rest others row y.gone y.work; long = y.long }
       go false rec =
           let y : length (given m (get_or places k 0) (sizes k)).nodes ≡ length m.nodes = length-set m.nodes (get_or places k 0) _ in
-          let u = subst (λ p. Work (given m p (sizes k)) h (kept′ ++ others) (at q None ks g)) (sym stands) (row_given m h q s ks (kept′ ++ others) g (sizes k) sized few z) in
+          let u = subst (λ p. Work (given m p (sizes k)) h (kept′ ++ others) (at q None ks g)) (sym stands) (row_given m h q s ks (kept′ ++ others) g (sizes k) size_is few z) in
           let r = rec others (at q None ks g) (given m (get_or places k 0) (sizes k)) (omega arith) u in
           record { gone = r.gone; work = r.work; long = r.long ∙ y }
 

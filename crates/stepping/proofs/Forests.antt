@@ -1,8 +1,8 @@
 -- Rows of a right side that are made, and those whose siblings or first node are still to be made.
-use Rattle.std.proofs.Common.{◌≡◌, ℕ, ◌+◌, ◌≤◌, Bool, true, false, List, [], ◌∷◌, ◌++◌, length, Some, None, Option, is_some, sym, refl, ap, ◌∙◌, subst, append_assoc, arith}
+use Rattle.std.proofs.Common.{◌≡◌, ℕ, ◌≤◌, Bool, true, false, List, [], ◌∷◌, ◌++◌, length, Some, None, Option, is_some, refl, ◌∙◌, arith}
 use Rattle.std.specs.List.{cons_option}
 use Rattle.terms.specs.Term.{Term, variable, instrument, apply, Terms, nil, cons, how_many}
-use Rattle.terms.specs.Substitution.{Substitution, fill, fill_all}
+use Rattle.terms.specs.Substitution.{Substitution, fill_all}
 use Rattle.node_store.specs.Memory.{Memory}
 use Rattle.node_store.specs.Placed.{Placed, none, at, link, AreTerms, Held}
 use Rattle.node_store.specs.Work.{Work}
@@ -40,11 +40,12 @@ taken_link true (at i s ks us) rest before after (Some x) e n t = (cc, cc)
 taken_link false none rest before after r e n t = (t.1, t.0 ∙ e)
 taken_link false (at i s ks us) rest before after r e n t = absurd (let z : ⊥ = cc in z)
 
-pub links_shorter : (a c : Placed) (qs : List Placed) → length (links qs) ≤ length (links (a ∷ c ∷ qs))
-links_shorter none none qs = omega arith
-links_shorter none (at i s ks us) qs = omega arith
-links_shorter (at j t js vs) none qs = omega arith
-links_shorter (at j t js vs) (at i s ks us) qs = omega arith
+-- two links more make no stack shorter
+pub longer : (o p : Option ℕ) (l : List ℕ) → length l ≤ length (cons_option o (cons_option p l))
+longer None None l = omega arith
+longer None (Some y) l = omega arith
+longer (Some x) None l = omega arith
+longer (Some x) (Some y) l = omega arith
 
 -- a row begins where there are terms
 pub grown_any : (σ : Substitution) (ts : Terms) (q : Placed) (ps : List ℕ) → Grown σ ts q ps → any ts ≡ is_some (link q)

@@ -1,29 +1,48 @@
 -- The rows that a left side's variables stand for: where they are, and which of them the right side needs.
-use Rattle.std.proofs.Common.{◌≡◌, ℕ, zero, suc, ◌+◌, ◌≤◌, ◌==◌, Bool, true, false, cond, ◌||◌, List, [], ◌∷◌, ◌++◌, length, get_or, Some, None, Option, sym, refl, ap, ◌∙◌, subst, append_assoc, eqb-true, eq-eqb, ⊎_elim, ◌<◌, arith}
-use Rattle.std.proofs.lemmas.Bool.{cases_lt}
+use Rattle.std.proofs.Common.{◌≡◌, ℕ, zero, suc, ◌+◌, ◌≤◌, ◌==◌, Bool, true, false, cond, ◌||◌, List, [], ◌∷◌, ◌++◌, length, get_or, Option, sym, refl, ap, ◌∙◌, eqb-true, eq-eqb, arith}
 use Rattle.terms.specs.declared.symbol.Symbol.{Symbol}
-use Rattle.terms.specs.Term.{Term, variable, instrument, apply, Terms, nil, cons, symbols, symbols_in}
-use Rattle.terms.specs.Substitution.{fill, fill_all, occurrences, occurrences_in}
+use Rattle.terms.specs.Term.{Term, variable, instrument, apply, symbols}
 use Rattle.rewriting.specs.Bindings.{Bindings, bound}
 use Rattle.rewriting.proofs.Matching.{binds, binds_append, bound_right}
 use Rattle.node_store.specs.Placed.{Placed, none, at, size, IsTerm}
 use Rattle.node_store.specs.Work.{size_all}
 use Rattle.node_store.proofs.Placing.{hit_self}
 use Rattle.node_store.proofs.Standing.{term_size}
-use Rattle.compiled.specs.Symbols.{parts_of, parts_under, is_variable, has_variable, home}
-use Rattle.matching.specs.Peeling.{Peels, done, end, bind, leaf, under}
+use Rattle.compiled.specs.Symbols.{is_variable, has_variable, home, plain}
+use Rattle.matching.proofs.Copies.{weigh, plain_append, weigh_append}
+use Rattle.matching.proofs.Sums.{times}
 use Rattle.matching.proofs.Peelings.{Beside, nothing, bound_part, leaf_part, node_part}
 use Rattle.stepping.specs.Keeping.{rows_for}
-use Rattle.stepping.proofs.Occurring.{right_or}
-use Rattle.stepping.proofs.Reading.{occurrences_all}
 
--- a variable is bound as often as it stands in the pattern
-pub peels_binds : (x : ℕ) (pss : List Terms) (qs : List Placed) (ps : List ℕ) (kept : List Placed) (v : Bindings) → Peels pss qs ps kept v → binds x v ≡ occurrences_all x pss
-peels_binds x pss qs ps kept v done = refl
-peels_binds x pss qs ps kept v (end {pss = pss′} {qs = qs′} p) = let e = peels_binds x pss′ qs′ ps kept v p in omega arith
-peels_binds x pss qs ps kept v (bind {us = us} {ts = ts} {pss = pss′} {qs = qs′} {ps = ps′} {kept = kept′} {m = v′} i p) = let e = peels_binds x (ts ∷ pss′) (us ∷ qs′) ps′ kept′ v′ p in omega arith
-peels_binds x pss qs ps kept v (leaf {us = us} {ts = ts} {pss = pss′} {qs = qs′} {ps = ps′} p) = let e = peels_binds x (ts ∷ pss′) (us ∷ qs′) ps′ kept v p in omega arith
-peels_binds x pss qs ps kept v (under {f = f} {ks = ks} {us = us} {fs = fs} {ts = ts} {pss = pss′} {qs = qs′} {ps = ps′} p) = let e = peels_binds x (fs ∷ ts ∷ pss′) (ks ∷ us ∷ qs′) ps′ kept v p in omega arith
+-- a variable among parts of terms
+has_append : (x : ℕ) (l r : List Term) → has_variable x (l ++ r) ≡ (has_variable x l || has_variable x r)
+has_append x [] r = refl
+has_append x (t ∷ l) r = go (is_variable x t) (has_append x l r)
+  where
+    go : (b : Bool) → has_variable x (l ++ r) ≡ (has_variable x l || has_variable x r) → (b || has_variable x (l ++ r)) ≡ ((b || has_variable x l) || has_variable x r)
+    go true e = refl
+    go false e = e
+
+-- another part at the end
+pub has_snoc : (x : ℕ) (l : List Term) (t : Term) → has_variable x (l ++ t ∷ []) ≡ (is_variable x t || has_variable x l)
+has_snoc x l t = has_append x l (t ∷ []) ∙ go (has_variable x l) (is_variable x t)
+  where
+    go : (a b : Bool) → (a || (b || false)) ≡ (b || a)
+    go true true = refl
+    go true false = refl
+    go false true = refl
+    go false false = refl
+
+pub right_or : (a : Bool) → (a || true) ≡ true
+right_or true = refl
+right_or false = refl
+
+-- a variable is bound as often as it stands among the parts
+pub beside_binds : (x : ℕ) (w : Placed) (l : List Term) (ps : List ℕ) (kept : List Placed) (v : Bindings) → Beside w l ps kept v → binds x v ≡ times x l
+beside_binds x w l ps kept v nothing = refl
+beside_binds x w l ps kept v (bound_part {ts = l′} {ps = ps′} {kept = kept′} {m = v′} a i k) = let e = beside_binds x w l′ ps′ kept′ v′ k in omega arith
+beside_binds x w l ps kept v (leaf_part {ts = l′} {ps = ps′} k) = let e = beside_binds x w l′ ps′ kept v k in omega arith
+beside_binds x w l ps kept v (node_part {ts = l′} {ps = ps′} k) = let e = beside_binds x w l′ ps′ kept v k in omega arith
 
 -- the row of a variable that stands among the parts, and those before and behind it
 pub record Found (x : ℕ) (l : List Term) (ps : List ℕ) (kept : List Placed) (v : Bindings) : Type 0 where
@@ -146,33 +165,12 @@ row_among x l ps kept v w f g one asked not same =
       without = (λ i. rows_for g (w.names i) (w.rows i)) ∙ rows_for-append g w.earlier ((x, w.term) ∷ w.later) w.before (q ∷ w.behind) w.many ∙ ap (λ c. rows_for g w.earlier w.before ++ cond c (q ∷ rows_for g w.later w.behind) (rows_for g w.later w.behind)) not ∙ (λ i. sym e i ++ sym h i);
     }
 
--- what terms need under bindings, each part counted by its first symbol, and a variable by all that it is bound to
-abbrev pub weight : Bindings → Term → ℕ
-weight v (variable x) = symbols (bound v x)
-weight v (instrument n) = 1
-weight v (apply f ts) = 1
-
+-- what parts need under bindings, each counted by its first symbol, and a variable by all that it is bound to
 abbrev pub weights : Bindings → List Term → ℕ
-weights v [] = 0
-weights v (t ∷ l) = weight v t + weights v l
+weights v l = plain l + weigh (λ x. symbols (bound v x)) l
 
 pub weights-append : (v : Bindings) (l r : List Term) → weights v (l ++ r) ≡ weights v l + weights v r
-weights-append v [] r = omega arith
-weights-append v (t ∷ l) r = let e = weights-append v l r in omega arith
-
-mutual
-  pub weights-row : (v : Bindings) (ts : Terms) → symbols_in (fill_all (bound v) ts) ≡ weights v (parts_of ts)
-  weights-row v nil = refl
-  weights-row v (cons t us) =
-      let a = weights-term v t in
-      let b = weights-row v us in
-      let c = weights-append v (parts_under t) (parts_of us) in
-      omega arith
-
-  pub weights-term : (v : Bindings) (t : Term) → symbols (fill (bound v) t) ≡ weight v t + weights v (parts_under t)
-  weights-term v (variable x) = omega arith
-  weights-term v (instrument n) = refl
-  weights-term v (apply f ts) = let a = weights-row v ts in omega arith
+weights-append v l r = omega (arith, plain_append l r, weigh_append (λ x. symbols (bound v x)) l r)
 
 equal_back : (x y : ℕ) → (x == y) ≡ false → (y == x) ≡ false
 equal_back x y e = go (y == x) refl

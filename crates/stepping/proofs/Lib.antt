@@ -1,5 +1,4 @@
 pub mod Parting
-pub mod Occurring
 pub mod Reading
 pub mod Keeping
 pub mod Dropping
@@ -7,3 +6,4 @@ pub mod Forests
 pub mod Pieces
 pub mod Copies
 pub mod Buildings
+pub mod Steps

@@ -3,29 +3,27 @@ use Rattle.std.proofs.Common.{◌≡◌, ℕ, ◌+◌, ◌≤◌, ◌==◌, Bool
 use Rattle.std.proofs.lemmas.List.{length-set}
 use Rattle.terms.specs.declared.symbol.Symbol.{Symbol}
 use Rattle.terms.specs.declared.symbol.Symbol.TheVariants.{Instrument, Operator}
-use Rattle.terms.specs.Term.{Term, variable, instrument, apply, Terms, nil, cons, symbols, how_many}
+use Rattle.terms.specs.Term.{Term, variable, instrument, apply, Terms, nil, cons, symbols}
 use Rattle.traversal.specs.Walks.{most_symbols}
 use Rattle.rewriting.specs.Bindings.{Bindings, bound}
 use Rattle.rewriting.proofs.Matching.{binds}
 use Rattle.node_store.specs.Memory.{Memory, linked}
-use Rattle.node_store.specs.Placed.{Placed, none, at, link, size, IsTerm, Held}
+use Rattle.node_store.specs.Placed.{Placed, none, at, link, IsTerm, Held}
 use Rattle.node_store.specs.Work.{Work, Joins, Joined, size_all}
 use Rattle.node_store.specs.Loading.{arguments_of}
 use Rattle.node_store.proofs.Rows.{without_none, swapped, to_front, from_front, row_linked}
 use Rattle.node_store.proofs.Standing.{term_size}
 use Rattle.node_store.proofs.Tracing.{small}
 use Rattle.compiled.specs.Symbols.{is_variable, has_variable, home, Narrow}
-use Rattle.compiled.specs.declared.Source.{Source}
-use Rattle.compiled.specs.declared.Source.TheVariants.{Made, Moved, Copied}
+use Rattle.compiled.specs.declared.Source.TheVariants.{Moved, Copied}
 use Rattle.compiled.specs.Plans.{source_of}
 use Rattle.matching.proofs.Peelings.{Beside}
 use Rattle.stepping.specs.Growing.{Grown, nothing, part, leaf, node}
 use Rattle.stepping.specs.Copying.{Copies}
 use Rattle.stepping.specs.Building.{MadeFrom, rows_in}
-use Rattle.stepping.proofs.Occurring.{has_snoc, right_or}
 use Rattle.stepping.proofs.Forests.{grown_nil}
 use Rattle.stepping.specs.Keeping.{rows_for}
-use Rattle.stepping.proofs.Keeping.{weights-append, size_middle, Found, find_row, found_bound, row_among, weight, weights, rows_weigh, asked_again, asked_more}
+use Rattle.stepping.proofs.Keeping.{has_snoc, right_or, weights-append, size_middle, Found, find_row, found_bound, row_among, weights, rows_weigh, asked_again, asked_more}
 
 grow_leaf : (v : Bindings) (n q : ℕ) (a c : Placed) (us : Terms) (ps rs : List ℕ) → Grown (bound v) nil a ps → Grown (bound v) us c rs → Grown (bound v) (cons (instrument n) us) (at q (Some (Instrument n)) a c) (q ∷ (ps ++ rs))
 grow_leaf v n q a c us ps rs nothing g = leaf g
@@ -62,7 +60,7 @@ module _ (l : List Term) (right : Term) (places : List ℕ) (kept : List Placed)
       pub room : weights v (earlier ++ t ∷ []) ≤ m.free + size_all (rows_in (right ∷ (earlier ++ t ∷ [])) v kept)
 
     -- there are as many free nodes as the part needs, if it asks for no row
-    enough : (t : Term) → Pending t → rows_in (right ∷ (earlier ++ t ∷ [])) v kept ≡ rows_in (right ∷ earlier) v kept → weight v t ≤ m.free
+    enough : (t : Term) → Pending t → rows_in (right ∷ (earlier ++ t ∷ [])) v kept ≡ rows_in (right ∷ earlier) v kept → weights v (t ∷ []) ≤ m.free
     enough t p e =
         let x = ap size_all (e ∙ asks earlier) in
         let y = rows_weigh v kept l places w beside one earlier (λ x q. p.inside x (has_snoc x earlier t ∙ ap (λ b. is_variable x t || b) q ∙ right_or (is_variable x t))) in
@@ -70,7 +68,7 @@ module _ (l : List Term) (right : Term) (places : List ℕ) (kept : List Placed)
         omega (arith, p.room)
 
     -- a new node
-    put_made : (t : Term) (y : Symbol) → Pending t → Joins m y first next k r → ((x : ℕ) → is_variable x t ≡ false) → weight v t ≡ 1 → ((q : ℕ) → Grown (bound v) (cons t us) (at q (Some y) a c) (q ∷ (ps ++ rs))) → Put m k earlier t us (ps ++ rs) forest r
+    put_made : (t : Term) (y : Symbol) → Pending t → Joins m y first next k r → ((x : ℕ) → is_variable x t ≡ false) → weights v (t ∷ []) ≡ 1 → ((q : ℕ) → Grown (bound v) (cons t us) (at q (Some y) a c) (q ∷ (ps ++ rs))) → Put m k earlier t us (ps ++ rs) forest r
     put_made t y p joins plain one_node grow = go r (joins h a c (forest ++ before) g p.work b d (let n = small (length m.nodes) few in omega arith))
       where
         before : List Placed
@@ -129,7 +127,7 @@ module _ (l : List Term) (right : Term) (places : List ℕ) (kept : List Placed)
             row = new;
             gone = made.gone;
             answer = made.answer;
-            begins = refl;
+            begins = refl {a = Some made.place};
             grown = grow_part v x made.place o.symbol made.row a c us ps rs (subst (IsTerm o.symbol made.row) (sym t) made.is) bare_row grown;
             work = subst (λ rows. Work k h (new ∷ rows) made.gone) same rows;
             room = omega (arith, p.room, made.free);
@@ -161,7 +159,7 @@ module _ (l : List Term) (right : Term) (places : List ℕ) (kept : List Placed)
             row = new;
             gone = g;
             answer = answer ∙ ap Some o.stands;
-            begins = refl;
+            begins = refl {a = Some o.place};
             grown = grow_part v x o.place o.symbol o.args a c us ps rs (subst (IsTerm o.symbol o.args) (sym t) o.is) bare_row grown;
             work = subst (λ rows. Work k h (new ∷ rows) g) same rows;
             room = omega (arith, p.room);

@@ -1,13 +1,14 @@
 -- Reading the parts of a row: after some of them, rows are left, and the pieces for these.
-use Rattle.std.proofs.Common.{◌≡◌, ℕ, zero, suc, ◌+◌, ◌≤◌, Bool, true, false, ◌||◌, List, [], ◌∷◌, ◌++◌, length, drop, sym, refl, ap, ◌∙◌, subst, append_assoc, append-nil, arith}
+use Rattle.std.proofs.Common.{◌≡◌, ℕ, suc, ◌+◌, ◌≤◌, true, cond, List, [], ◌∷◌, ◌++◌, length, drop, sym, refl, ap, ◌∙◌, subst, append_assoc, append-nil, arith}
 use Rattle.std.proofs.lemmas.List.{length-append, drop-drop}
 use Rattle.terms.specs.Term.{Term, variable, instrument, apply, Terms, nil, cons}
 use Rattle.node_store.specs.Loading.{arguments_of}
 use Rattle.terms.specs.Substitution.{occurrences, occurrences_in}
 use Rattle.compiled.specs.Symbols.{parts_of, parts_under, is_variable, has_variable, Narrow, AllNarrow}
 use Rattle.compiled.specs.declared.Piece.{Piece}
-use Rattle.compiled.specs.Plans.{source_of, pieces_of, pieces_under}
-use Rattle.stepping.proofs.Occurring.{has_snoc, occurs_as}
+use Rattle.compiled.specs.Plans.{pieces_of, pieces_under}
+use Rattle.matching.proofs.Needs.{parts_same}
+use Rattle.matching.proofs.Sums.{times, times_append, has_times}
 
 -- the parts that are read so far, and the rows that are left
 pub data Read (start : Terms) : List Term → List Terms → Type 0 where
@@ -43,11 +44,6 @@ pieces_term left before (variable x) = refl
 pieces_term left before (instrument n) = refl
 pieces_term left before (apply f ts) = refl
 
-pub parts_term : (t : Term) → parts_under t ≡ parts_of (arguments_of t)
-parts_term (variable x) = refl
-parts_term (instrument n) = refl
-parts_term (apply f ts) = refl
-
 -- the pieces that are left are those for the rows that are left
 pub pieces_left : (start : Terms) (left before bs : List Term) (pss : List Terms) → Read start bs pss → drop (length bs) (pieces_all left before (start ∷ [])) ≡ pieces_all left (before ++ bs) pss
 pieces_left start left before bs pss begin = ap (λ b. pieces_of left b start ++ []) (sym (append-nil before))
@@ -58,7 +54,7 @@ pieces_left start left before bs pss (read {bs = bs′} {t = t} {us = us} {pss =
     let n = ap length e in
     let k : length bs ≡ length bs′ + 1 = omega (arith, length-append bs′ (t ∷ [])) in
     let c : h ++ t ∷ [] ≡ before ++ bs = append_assoc before bs′ (t ∷ []) ∙ ap (λ l. before ++ l) (sym e) in
-    let v : h ++ t ∷ parts_under t ≡ (before ++ bs) ++ parts_of (arguments_of t) = sym (append_assoc h (t ∷ []) (parts_under t)) ∙ (λ i. c i ++ parts_term t i) in
+    let v : h ++ t ∷ parts_under t ≡ (before ++ bs) ++ parts_of (arguments_of t) = sym (append_assoc h (t ∷ []) (parts_under t)) ∙ (λ i. c i ++ parts_same t i) in
     let w : h ++ t ∷ (parts_under t ++ parts_of us) ≡ ((before ++ bs) ++ parts_of (arguments_of t)) ++ parts_of us = sym (append_assoc h (t ∷ parts_under t) (parts_of us)) ∙ ap (λ l. l ++ parts_of us) v in
     let u = pieces_term left (h ++ t ∷ []) t ∙ ap (λ b. pieces_of left b (arguments_of t)) c in
     ap (λ m. drop m all) k ∙ sym (drop-drop 1 (length bs′) all) ∙ ap (drop 1) (pieces_left start left before bs′ (cons t us ∷ pss′) r)
@@ -84,26 +80,21 @@ abbrev pub occurrences_all : ℕ → List Terms → ℕ
 occurrences_all x [] = 0
 occurrences_all x (ts ∷ pss) = occurrences_in x ts + occurrences_all x pss
 
-pub occurs_under : (x : ℕ) (t : Term) → occurrences_in x (arguments_of t) ≤ occurrences x t
-occurs_under x (variable y) = omega arith
-occurs_under x (instrument n) = omega arith
-occurs_under x (apply f ts) = omega arith
+-- the variables of a term are its own first symbol and those of its arguments
+pub term_occurs : (x : ℕ) (t : Term) → occurrences x t ≡ cond (is_variable x t) 1 0 + occurrences_in x (arguments_of t)
+term_occurs x (variable y) = omega arith
+term_occurs x (instrument n) = refl
+term_occurs x (apply f ts) = omega arith
 
--- the variables of the rows that are left are among those of the row
-pub read_occurs : (x : ℕ) (start : Terms) (bs : List Term) (pss : List Terms) → Read start bs pss → occurrences_all x pss ≤ occurrences_in x start
-read_occurs x start bs pss begin = omega arith
-read_occurs x start bs pss (skip r) = let o = read_occurs x start bs (nil ∷ pss) r in omega arith
-read_occurs x start bs pss (read {bs = bs′} {t = t} {us = us} {pss = pss′} r e) = let o = read_occurs x start bs′ (cons t us ∷ pss′) r in let u = occurs_under x t in omega arith
+-- the variables that were read, and those of the rows that are left, are those of the row
+read_times : (x : ℕ) (start : Terms) (bs : List Term) (pss : List Terms) → Read start bs pss → times x bs + occurrences_all x pss ≡ occurrences_in x start
+read_times x start bs pss begin = omega arith
+read_times x start bs pss (skip r) = let o = read_times x start bs (nil ∷ pss) r in omega arith
+read_times x start bs pss (read {bs = bs′} {t = t} {us = us} {pss = pss′} r e) = let o = read_times x start bs′ (cons t us ∷ pss′) r in let z = ap (times x) e in omega (arith, term_occurs x t, times_append x bs′ (t ∷ []))
 
 -- a variable that was read is one of the row's
 pub read_has : (x : ℕ) (start : Terms) (bs : List Term) (pss : List Terms) → Read start bs pss → has_variable x bs ≡ true → 1 ≤ occurrences_in x start
-read_has x start bs pss begin e = absurd (let z : ⊥ = cc in z)
-read_has x start bs pss (skip r) e = read_has x start bs (nil ∷ pss) r e
-read_has x start bs pss (read {bs = bs′} {t = t} {us = us} {pss = pss′} r c) e = go (is_variable x t) refl (sym (ap (has_variable x) c ∙ has_snoc x bs′ t) ∙ e) (read_has x start bs′ (cons t us ∷ pss′) r)
-  where
-    go : (b : Bool) → is_variable x t ≡ b → (is_variable x t || has_variable x bs′) ≡ true → (has_variable x bs′ ≡ true → 1 ≤ occurrences_in x start) → 1 ≤ occurrences_in x start
-    go true h f rec = let o = read_occurs x start bs′ (cons t us ∷ pss′) r in let k = occurs_as x t h in omega arith
-    go false h f rec = rec (sym (ap (λ b. b || has_variable x bs′) h) ∙ f)
+read_has x start bs pss r e = omega (arith, has_times x bs e, read_times x start bs pss r)
 
 -- no operator of the rows has more than three arguments
 abbrev pub NarrowRows : List Terms → Type 0

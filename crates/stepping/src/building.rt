@@ -21,8 +21,9 @@ pub fn build(
 {
     made.clear();
     let mut rows: Places = FixedVec::new(0);
-    for i in (0..plan.pieces.len()).rev() {
-        let piece = plan.pieces.get(i)?;
+    let pieces = plan.pieces.as_slice();
+    for i in (0..pieces.len()).rev() {
+        let piece = &pieces[i];
         let first = take(&mut rows, piece.has_first);
         let next = take(&mut rows, piece.has_next);
         let place = build_piece(store, piece.source, first, next, places, scratch)?;

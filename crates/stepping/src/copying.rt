@@ -8,12 +8,7 @@ use node_store::store::Store;
 use traversal::MOST;
 
 // A copy of the part at a place, before a row.
-pub fn copy(
-    store: &mut Store,
-    place: u16,
-    next: Option<u16>,
-    scratch: &mut Scratch,
-) -> Option<u16>
+pub fn copy(store: &mut Store, place: u16, next: Option<u16>, scratch: &mut Scratch) -> Option<u16>
     ensures { Copies (memory store.old) place next (memory store.new) result }
 {
     let node = store.node(place);
@@ -22,7 +17,8 @@ pub fn copy(
         let source = scratch.order.pop()?;
         repeat(store, source, &mut scratch.stack)?;
     }
-    store.join(node.symbol?, scratch.stack.pop(), next)
+    let row = scratch.stack.pop();
+    store.join(node.symbol?, row, next)
 }
 
 // The node at a place again, over the row of copies that is on top of the stack, if it has arguments, and before the next one, if it has a

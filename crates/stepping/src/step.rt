@@ -27,8 +27,8 @@ pub fn step(
     store.put_under(place, symbol, None);
     take_apart(store, plan, places);
     give_dropped(store, plan, places, sizes);
-    let row = build(store, plan, places, scratch, made)?;
-    finish(store, plan.root.source, place, places, row);
+    let row = build(store, plan, places, scratch, made);
+    finish(store, plan.root.source, place, places, row?);
     Some(())
 }
 

@@ -1,4 +1,4 @@
-use Rattle.std.proofs.Common.{◌≡◌, subst, arith}
+use Rattle.std.proofs.Common.{◌≡◌, reverse, ap, subst, arith}
 use Rattle.fixed_vec.specs.FixedVec.{items, content}
 use Rattle.node_store.specs.Memory.{memory}
 use Rattle.engine.specs.declared.reduce.Stop.TheVariants.{Finished, Spent}
@@ -7,7 +7,7 @@ use Rattle.engine.proofs.Reductions.{no_step, ended_finished, ended_spent, ended
 use Rattle.engine.proofs.reduce.reduce.Goals as goal
 
 pub loop-steps-init : goal.loop-steps-init
-loop-steps-init c = no_step (memory c.args.store.now) c.args.rules.now c.args.place c.args.allowed (content c.start-todo.result) c.start-todo.ensures
+loop-steps-init c = no_step (memory c.args.store.now) c.args.rules.now c.args.place c.args.allowed (content c.start.new.todo) (c.start.ensures (ap reverse c.new-todo.ensures))
 
 pub returns-in_default : goal.returns-in_default
 returns-in_default c =

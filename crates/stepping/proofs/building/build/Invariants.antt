@@ -1,4 +1,4 @@
-use Rattle.std.proofs.Common.{◌≡◌, ℕ, suc, ◌+◌, ◌≤◌, List, ◌∷◌, length}
+use Rattle.std.proofs.Common.{suc, ◌+◌, ◌≤◌, List, ◌∷◌, length}
 use Rattle.fixed_vec.specs.FixedVec.{items, content}
 use Rattle.terms.specs.Term.{symbols}
 use Rattle.terms.specs.Signature.{Sig}

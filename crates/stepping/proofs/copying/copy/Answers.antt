@@ -1,4 +1,4 @@
-use Rattle.std.proofs.Common.{◌≡◌, ℕ, reverse, sym, ap, ◌∙◌}
+use Rattle.std.proofs.Common.{reverse, sym, ap, ◌∙◌}
 use Rattle.terms.specs.declared.node.Node.{Node}
 use Rattle.node_store.specs.Memory.{memory}
 use Rattle.stepping.proofs.Copies.{copy_size, copy_starts, copy_step, copy_misses, copy_ends}
@@ -26,4 +26,4 @@ loop-n-preserved c h s ks t b qs g w is room few =
 pub returns : goal.returns
 returns c h s ks t b qs g w e is room few =
     let held = w.rows.1.0 in
-    copy_ends (memory c.args.store.now) h c.args.place s ks t b qs g w is room few _ _ _ _ _ _ _ _ _ _ _ c.loop-n-test.false (sym (ap (λ (n : Node). n.symbol) (c.node-node.ensures ∙ held.1)) ∙ c.in_ok-node.was) e c.pop-2.ensures.top c.join.ensures (c.loop-n.invariant h s ks t b qs g w is room few)
+    copy_ends (memory c.args.store.now) h c.args.place s ks t b qs g w is room few _ _ _ _ _ _ _ _ _ _ _ c.loop-n-test.false (sym (ap (λ (n : Node). n.symbol) (c.node-node.ensures ∙ held.1)) ∙ c.in_ok-node.was) e c.pop-row.ensures.top c.join.ensures (c.loop-n.invariant h s ks t b qs g w is room few)

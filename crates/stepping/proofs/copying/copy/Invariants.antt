@@ -1,4 +1,4 @@
-use Rattle.std.proofs.Common.{◌≡◌, ℕ, ◌≤◌, List, ◌∷◌, length}
+use Rattle.std.proofs.Common.{◌≤◌, List, ◌∷◌, length}
 use Rattle.terms.specs.declared.symbol.Symbol.{Symbol}
 use Rattle.std.specs.Prelude.{Option}
 use Rattle.terms.specs.Term.{Term, symbols}
