@@ -1,4 +1,4 @@
 pub mod Outlines
 pub mod Walking
 pub mod Compilable
-pub mod Chains
+pub mod Noting

@@ -1,7 +1,7 @@
 // Making the rules of a sheet ready for use on terms in nodes.
 #![tactic(auto)]
 
-mod chains;
 mod outline;
 mod planning;
 pub mod rules;
+mod sets;
