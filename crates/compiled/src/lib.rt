@@ -4,6 +4,7 @@
 ghost use Rattle.std.specs.Prelude.{◌≡◌, length};
 
 use fixed_vec::FixedVec;
+use rule_set::RuleSet;
 use terms::symbol::Symbol;
 
 pub mod rules;
@@ -51,14 +52,23 @@ pub struct Plan {
     // how many symbols of the left side, and of the right one, are no variables
     pub before: usize,
     pub after: usize,
-    // the next rule whose left side has the same operator in front
-    pub next: Option<usize>,
 }
 
-// The rules of a sheet, and for each operator the first one whose left side has it in front.
+// For an argument of a left side: the rules that match only where such an operator is in front of it, or that do not ask; and those for
+// anything else in front.
+#[derive(Clone, Copy)]
+pub struct Fronts {
+    pub operators: [RuleSet; 32],
+    pub others: RuleSet,
+    ghost whole: { length operators ≡ 32 },
+}
+
+// The rules of a sheet; for each operator those whose left side has it in front; and what may be in front of the first two arguments.
 #[derive(Clone, Copy)]
 pub struct CompiledRules {
     pub plans: FixedVec<Plan, 32>,
-    pub heads: [Option<usize>; 32],
-    ghost whole: { length heads ≡ 32 },
+    pub begins: [RuleSet; 32],
+    pub first: Fronts,
+    pub second: Fronts,
+    ghost whole: { length begins ≡ 32 },
 }

@@ -9,5 +9,7 @@ pub mod Copies
 pub mod Variables
 pub mod Drops
 pub mod Lawful
-pub mod Chaining
+pub mod Beginnings
+pub mod Wanting
+pub mod Noting
 pub mod Compiling

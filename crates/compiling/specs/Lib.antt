@@ -1,5 +1,5 @@
 pub mod Outlines
 pub mod Walking
 pub mod Compilable
-pub mod Chains
 pub mod FromRules
+pub mod Noting

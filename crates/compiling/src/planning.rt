@@ -39,15 +39,13 @@ pub fn blank() -> Plan {
         copied: FixedVec::new(0),
         before: 0,
         after: 0,
-        next: None,
     }
 }
 
-// The plan of a rule, with the next rule that begins with the same operator.
-pub fn plan_of(rule: &Stored, next: Option<usize>) -> Plan
+// The plan of a rule.
+pub fn plan_of(rule: &Stored) -> Plan
     requires { Compilable (rule_of rule.now) }
-    ensures planned { Planned (rule_of rule.now) result }
-    ensures next { result.next ≡ next }
+    ensures { Planned (rule_of rule.now) result }
 {
     let left = Outline::of(rule.left());
     let right = Outline::of(rule.right());
@@ -62,7 +60,6 @@ pub fn plan_of(rule: &Stored, next: Option<usize>) -> Plan
         copied: copied(pieces.as_slice()),
         before: left.plain(),
         after: right.plain(),
-        next,
     }
 }
 

@@ -1,6 +1,7 @@
 pub mod Nexts
 pub mod Tops
 pub mod Seeks
+pub mod Fronts
 pub mod Candidates
 pub mod Looks
 pub mod Revisiting

@@ -12,21 +12,20 @@ use Rattle.rewriting.specs.Bindings.{bound}
 use Rattle.node_store.specs.Memory.{Memory}
 use Rattle.node_store.specs.Loading.{arguments_of}
 use Rattle.node_store.specs.Placed.{Placed, link, Held}
+use Rattle.rule_set.specs.declared.RuleSet.{RuleSet}
+use Rattle.rule_set.specs.Members.{HasNone}
 use Rattle.compiled.specs.declared.CompiledRules.{CompiledRules}
 use Rattle.engine.specs.declared.visits.Visit.{Visit}
 use Rattle.engine.specs.declared.visits.Visit.TheVariants.{Fresh, Reached}
 use Rattle.engine.specs.Searched.{ahead, Idle, Seeking}
 use Rattle.engine.specs.Searching.{Prepared, Begins, Finds, Looks, Searches, Starts}
 use Rattle.engine.proofs.Nexts.{bound_normal}
+use Rattle.engine.proofs.Candidates.{no_candidate}
 use Rattle.engine.proofs.Seeks.{RowFirst, seeking_turns, seeking_short, seeking_none, seeking_row, seeking_node, seeking_all, root_node}
 
 length-ahead : (l : Option ℕ) (vs : List Visit) → length vs ≤ length (ahead l vs)
 length-ahead None vs = omega arith
 length-ahead (Some i) vs = omega arith
-
-nothing_found : (c : CompiledRules) (s : Option Symbol) (r : Option ℕ) → is_some r ≡ false → Begins c s r → Begins c s None
-nothing_found c s None e b = b
-nothing_found c s (Some j) e b = absurd (let z : ◌≡◌ {A = ℕ} 0 1 = cc in let w : ⊥ = omega arith in w)
 
 no_link : (l : Option ℕ) → is_some l ≡ false → l ≡ None
 no_link None e = refl
@@ -52,9 +51,9 @@ module _ (m : Memory) (c : CompiledRules) (i : ℕ) (before : List Visit) (node 
       let after_is : after ≡ Reached i ∷ ahead (link r.others) before = f (omega arith) ∙ ap (λ z. Reached i ∷ z) b in
       (k, l, subst (λ z. Seeking rules root ks t k (ahead z after)) (sym first) (subst (λ z. Seeking rules root ks t k (ahead (link r.under) z)) (sym after_is) v))
 
-  module _ (o : Option ℕ) (none : is_some o ≡ false) (begins : Begins c node.symbol o) where
+  module _ (set : RuleSet) (none : HasNone set) (begins : Begins c node.symbol set) where
     idle : {sig : Sig} {rules : List Rule} {h : Held} {root : ℕ} {s : Option Symbol} {ks : Placed} {t : Term} {g : Placed} → Prepared m c sig rules h root s ks t g → {n : ℕ} → (r : RowFirst m.nodes rules root ks t n i before) → Idle rules r.symbol
-    idle {sig} {rules} p r = subst (Idle rules) (ap (λ (x : Node). x.symbol) (is ∙ r.node)) (nothing_found c node.symbol o none begins sig rules p.over p.compiled)
+    idle {sig} {rules} p r = subst (Idle rules) (ap (λ (x : Node). x.symbol) (is ∙ r.node)) (no_candidate c node.symbol set none begins sig rules p.over p.compiled)
 
     -- the node is not visited, but its arguments are looked at
     pub looked_below : (after : List Visit) → (length before < 16384 → after ≡ ahead node.next before) → Looks m c i before after node.first

@@ -3,7 +3,6 @@ use Rattle.std.specs.Prelude.{◌≡◌, ℕ, ◌+◌, ◌<◌, ◌≤◌, Bool,
 use Rattle.std.proofs.Math.Option.{none as nothing, some}
 use Rattle.terms.specs.declared.node.Node.{Node}
 use Rattle.terms.specs.declared.symbol.Symbol.{Symbol}
-use Rattle.terms.specs.declared.symbol.Symbol.TheVariants.{Operator}
 use Rattle.terms.specs.Term.{Term, symbols}
 use Rattle.terms.specs.Nodes.{vacant}
 use Rattle.terms.specs.Signature.{Sig}
@@ -12,19 +11,21 @@ use Rattle.terms.specs.Rule.{Rule}
 use Rattle.traversal.specs.Walks.{most_symbols}
 use Rattle.rewriting.specs.Rules.{left_of, right_of, RulesOf}
 use Rattle.rewriting.specs.Bindings.{Bindings, bound}
-use Rattle.rewriting.specs.Next.{matching_all, contracted, next}
+use Rattle.rewriting.specs.Next.{matching, matching_all, contracted, next}
 use Rattle.node_store.specs.Memory.{Memory}
 use Rattle.node_store.specs.Placed.{Placed, none, at, link, Holds, IsTerm, Held, also}
 use Rattle.node_store.specs.Grafting.{graft, Sub}
 use Rattle.node_store.specs.Work.{Work}
 use Rattle.node_store.specs.Loading.{arguments_of}
+use Rattle.rule_set.specs.declared.RuleSet.{RuleSet}
+use Rattle.rule_set.specs.Members.{has}
 use Rattle.compiled.specs.declared.CompiledRules.{CompiledRules}
-use Rattle.compiled.specs.Compiled.{FirstFrom, IsCompiled}
+use Rattle.compiled.specs.Compiled.{IsCompiled}
 use Rattle.matching.specs.Peeling.{Peeled}
 use Rattle.engine.specs.declared.visits.Visit.{Visit}
 use Rattle.engine.specs.declared.visits.Visit.TheVariants.{Fresh}
 use Rattle.engine.specs.declared.search.Hit.{Hit}
-use Rattle.engine.specs.Searched.{ahead, Idle, Seeking, Renewed}
+use Rattle.engine.specs.Searched.{ahead, Seeking, Renewed}
 
 -- the rules are those that were compiled, and the term is held in nodes beside others
 pub record Prepared (m : Memory) (c : CompiledRules) (sig : Sig) (rules : List Rule) (h : Held) (root : ℕ) (s : Option Symbol) (ks : Placed) (t : Term) (g : Placed) : Type 0 where
@@ -39,10 +40,20 @@ pub record Shows (ns : List Node) (p : ℕ) (s : Option Symbol) (ks : Placed) : 
   pub first : (slice_index_or ns p vacant).first ≡ link ks
   pub row : Holds ns ks
 
--- the first rule that begins with the symbol; or none ever matches where it stands
-abbrev pub Begins : CompiledRules → Option Symbol → Option ℕ → Type 0
-Begins c s None = (sig : Sig) (rules : List Rule) → RulesOf sig rules → IsCompiled rules c → Idle rules s
-Begins c s (Some j) = (sig : Sig) (rules : List Rule) → RulesOf sig rules → IsCompiled rules c → (f : ℕ) × (s ≡ Some (Operator f)) × FirstFrom rules f 0 (Some j)
+-- no rule of the sheet but those of the set matches the term; each of these begins as the term does, so it matches if its arguments do
+pub record Candidates (rules : List Rule) (t : Term) (set : RuleSet) : Type 0 where
+  pub known : (i : ℕ) → has set i ≡ true → i < length rules
+  pub begin : (i : ℕ) → has set i ≡ true → matching (left_of rules i) t ≡ matching_all (arguments_of (left_of rules i)) (arguments_of t)
+  pub others : (i : ℕ) → i < length rules → has set i ≡ false → matching (left_of rules i) t ≡ nothing
+
+-- the candidates for every term with the symbol in front
+abbrev pub Begins : CompiledRules → Option Symbol → RuleSet → Type 0
+Begins c s set = (sig : Sig) (rules : List Rule) → RulesOf sig rules → IsCompiled rules c → (ks : Placed) (t : Term) → IsTerm s ks t → Candidates rules t set
+
+-- the candidates for a term whose arguments begin at the link are among the second ones, if they are among the first ones
+abbrev pub Narrows : Memory → CompiledRules → Option ℕ → RuleSet → RuleSet → Type 0
+Narrows m c first before after =
+    (rules : List Rule) → IsCompiled rules c → (s : Option Symbol) (ks : Placed) (t : Term) → Holds m.nodes ks → link ks ≡ first → IsTerm s ks t → Candidates rules t before → Candidates rules t after
 
 -- the rule of a number is the lowest that matches a term; these are the places of its left side's symbols behind the first
 pub record Fits (rules : List Rule) (i : ℕ) (ks : Placed) (t : Term) (places : List ℕ) : Type 0 where

@@ -1,11 +1,12 @@
 ghost use Rattle.fixed_vec.specs.FixedVec.{items, content};
 ghost use Rattle.node_store.specs.Memory.{memory};
-ghost use Rattle.engine.specs.Searching.{Begins, Finds, Looks, Searches};
+ghost use Rattle.engine.specs.Searching.{Begins, Narrows, Finds, Looks, Searches};
 
 use crate::visits::{Visit, Visits, put, put_row};
 use compiled::CompiledRules;
 use matching::places::{Places, matches};
 use node_store::store::Store;
+use rule_set::RuleSet;
 use terms::symbol::Symbol;
 
 // Where the next step is, and by which rule.
@@ -61,7 +62,7 @@ fn look_at(store: &Store, rules: &CompiledRules, place: u16, todo: &mut Visits) 
     ensures { Looks (memory store.now) rules.now place (content todo.old) (content todo.new) result }
 {
     let node = store.node(place);
-    if first_rule(rules, node.symbol).is_some() {
+    if !beginning(rules, node.symbol).is_empty() {
         put_row(todo, node.next);
         put(todo, Visit::Reached(place));
         return node.first;
@@ -78,24 +79,52 @@ fn find(store: &Store, rules: &CompiledRules, place: u16, places: &mut Places) -
     ensures { Finds (memory store.now) rules.now place (items places.new) result }
 {
     let node = store.node(place);
-    let mut candidate = first_rule(rules, node.symbol);
+    let begin = beginning(rules, node.symbol);
+    if begin.is_empty() {
+        return None;
+    }
+    let mut rest = narrowed(store, rules, node.first, begin);
     for _n in 0..MOST_RULES {
-        let i = candidate?;
+        let i = rest.first()?;
         let plan = rules.plan(i)?;
         if matches(store, plan, node.first, places) {
             return Some(i);
         }
-        candidate = plan.next;
+        rest = rest.without(i);
     }
     None
 }
 
-// The first rule that may match where a symbol stands.
-fn first_rule(rules: &CompiledRules, symbol: Option<Symbol>) -> Option<usize>
+// The rules whose left side begins with a symbol.
+fn beginning(rules: &CompiledRules, symbol: Option<Symbol>) -> RuleSet
     ensures { Begins rules.now symbol result }
 {
-    match symbol? {
-        Symbol::Operator(operator) => rules.first(operator),
-        Symbol::Variable(_) | Symbol::Instrument(_) => None,
+    let Some(front) = symbol else {
+        return RuleSet::none();
+    };
+    match front {
+        Symbol::Operator(operator) => rules.beginning(operator),
+        Symbol::Variable(_) | Symbol::Instrument(_) => RuleSet::none(),
     }
+}
+
+// Those candidates that may match over a row of arguments, by the symbols in front of the first two.
+fn narrowed(
+    store: &Store,
+    rules: &CompiledRules,
+    first: Option<u16>,
+    candidates: RuleSet,
+) -> RuleSet
+    ensures { Narrows (memory store.now) rules.now first candidates result }
+{
+    let Some(place) = first else {
+        return candidates;
+    };
+    let one = store.node(place);
+    let fewer = candidates.both(rules.with_first(one.symbol));
+    let Some(second) = one.next else {
+        return fewer;
+    };
+    let two = store.node(second);
+    fewer.both(rules.with_second(two.symbol))
 }

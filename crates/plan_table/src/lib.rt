@@ -8,7 +8,7 @@ mod shown;
 #[cfg(test)]
 mod tests {
     use crate::cases::CASES;
-    use crate::shown::{heads, lines, plan};
+    use crate::shown::{beginnings, lines, plan};
     use compiling::rules::compile;
     use sheet::Sheet;
     use std::alloc::Global;
@@ -41,11 +41,11 @@ mod tests {
         for case in CASES.split("\n\n") {
             let (head, cases) = case.split_once('\n').unwrap_or((case, ""));
             let (_caption, rest) = head.split_once("||").ok_or("no front")?;
-            let (front, firsts) = rest.split_once("||").ok_or("no heads")?;
+            let (front, begins) = rest.split_once("||").ok_or("no sets")?;
             let sheet = read(heap, front, cases)?;
             let compiled = compile(&sheet);
-            let found = heads(heap, &sheet, &compiled)?;
-            assert_eq!(rt; found.as_str(), firsts, "{}", head);
+            let found = beginnings(heap, &sheet, &compiled)?;
+            assert_eq!(rt; found.as_str(), begins, "{}", head);
             for (i, case) in cases.lines().enumerate() {
                 let (_rule, expected) = case.split_once('|').ok_or("no bar")?;
                 let made = compiled.plan(i).ok_or("no plan")?;

@@ -1,5 +1,6 @@
 // The notation of the table.
 use compiled::{CompiledRules, Piece, Plan, Source};
+use rule_set::RuleSet;
 use sheet::Sheet;
 use std::alloc::{AllocError, Global};
 use terms::symbol::Symbol;
@@ -11,8 +12,8 @@ pub(crate) fn lines(heap: Global, text: &str) -> Result<Vec<u8>, AllocError> {
         .collect(heap)
 }
 
-// The first rule of each operator of a sheet.
-pub(crate) fn heads(
+// The rules that begin with each operator of a sheet.
+pub(crate) fn beginnings(
     heap: Global,
     sheet: &Sheet,
     compiled: &CompiledRules,
@@ -23,7 +24,7 @@ pub(crate) fn heads(
             if operator > 0 {
                 found.push(' ')?;
             }
-            show_number(compiled.first(operator), &mut found)?;
+            show_set(compiled.beginning(operator), &mut found)?;
         }
     }
     Ok(found)
@@ -50,8 +51,7 @@ pub(crate) fn plan(heap: Global, sheet: &Sheet, plan: &Plan) -> Result<String, A
     show_list(plan.visits.as_slice(), &mut found)?;
     show_list(plan.dropped.as_slice(), &mut found)?;
     show_list(plan.copied.as_slice(), &mut found)?;
-    write!(found, "|{} {}|", plan.before, plan.after)?;
-    show_number(plan.next, &mut found)?;
+    write!(found, "|{} {}", plan.before, plan.after)?;
     Ok(found)
 }
 
@@ -100,9 +100,21 @@ fn show_list(numbers: &[usize], found: &mut String) -> Result<(), AllocError> {
     Ok(())
 }
 
-fn show_number(number: Option<usize>, found: &mut String) -> Result<(), AllocError> {
-    match number {
-        Some(n) => write!(found, "{n}"),
-        None => found.push('-'),
+// The members of a set with a comma between two, or a dash.
+fn show_set(set: RuleSet, found: &mut String) -> Result<(), AllocError> {
+    if set.is_empty() {
+        return found.push('-');
     }
+    let mut rest = set;
+    for i in 0..32 {
+        let Some(rule) = rest.first() else {
+            break;
+        };
+        if i > 0 {
+            found.push(',')?;
+        }
+        write!(found, "{rule}")?;
+        rest = rest.without(rule);
+    }
+    Ok(())
 }

@@ -25,8 +25,8 @@ dropped-requires c =
     let right_is = subst (λ t. Outlines t c.of-right.result) c.right.ensures c.of-right.ensures in
     (rule_of c.args.rule.now, record { left_is = left_is; right_is = right_is }, c.requires.linear)
 
-pub returns-clause-planned : goal.returns-clause-planned
-returns-clause-planned c =
+pub returns : goal.returns
+returns c =
     let r = rule_of c.args.rule.now in
     let left_is = subst (λ t. Outlines t c.of-left.result) c.left.ensures c.of-left.ensures in
     let right_is = subst (λ t. Outlines t c.of-right.result) c.right.ensures c.of-right.ensures in

@@ -4,4 +4,4 @@ use Rattle.compiling.proofs.Compiling.{PlansOf}
 use Rattle.compiling.proofs.rules.compile.Given as goal
 
 abbrev pub invariant-loop-i : goal.invariant-loop-i
-invariant-loop-i l = PlansOf (rules_of l.sheet) l.chains.nexts (items l.plans) l.i
+invariant-loop-i l = PlansOf (rules_of l.sheet) (items l.plans) l.i

@@ -13,4 +13,4 @@ use Rattle.engine.proofs.search.find.Given as goal
 
 abbrev pub invariant-loop-n : goal.invariant-loop-n
 invariant-loop-n l =
-    (sig : Sig) (rules : List Rule) → RulesOf sig rules → IsCompiled rules l.rules → (s : Option Symbol) (ks : Placed) (t : Term) → Shows (memory l.store).nodes l.place s ks → IsTerm s ks t → Trying rules t l._n l.candidate
+    (sig : Sig) (rules : List Rule) → RulesOf sig rules → IsCompiled rules l.rules → (s : Option Symbol) (ks : Placed) (t : Term) → Shows (memory l.store).nodes l.place s ks → IsTerm s ks t → Trying rules t l._n l.rest

@@ -3,7 +3,7 @@ use Rattle.terms.specs.Rule.{Rule}
 use Rattle.compiled.specs.Compiled.{BeginsWith}
 use Rattle.compiling.proofs.Rows.{first_begins}
 use Rattle.compiling.proofs.Lawful.{low_first}
-use Rattle.compiling.proofs.chains.first_operator.Goals as goal
+use Rattle.compiling.proofs.sets.first_operator.Goals as goal
 
 pub returns : goal.returns
 returns c =
