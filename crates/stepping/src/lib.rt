@@ -1,6 +1,6 @@
 // One step of a rule in place.
 #![tactic(auto)]
 
-pub mod building;
-pub mod copying;
+mod building;
+mod copying;
 pub mod step;
