@@ -89,20 +89,20 @@ def sheet_of(text):
     return read_sheet(text.replace("/", "\n").encode("latin-1"))
 
 
-def module_of(text, tickets):
-    """Maude's module of a sheet, with the instruments of these tickets."""
+def declared(text, tickets):
+    """What a module of Maude says of a sheet, and of the instruments of these tickets."""
     sheet = sheet_of(text)
-    lines = ["set include BOOL off .", "fmod SHEET is", "sort Term .", "vars A B C D E F G H : Term ."]
+    lines = ["sort Term .", "vars A B C D E F G H : Term ."]
     lines += [f"op {name} : {'Term ' * arity}-> Term ." for name, arity in zip(sheet.names, sheet.arities)]
     lines += [f"op {instrument} : -> Term ." for instrument in sorted(set(re.findall("#[0-9]+", " ".join(tickets))))]
     rules = text.rstrip("/").split("/rules/")[1].split("/")
-    lines += [f"eq {rule.replace('=', ' = ')} ." for rule in rules]
-    return lines + ["endfm"]
+    return lines + [f"eq {rule.replace('=', ' = ')} ." for rule in rules]
 
 
 def forms(text, tickets):
     """What Maude makes of each ticket."""
-    lines = module_of(text, tickets) + ["set show command off .", "set show stats off .", "set show timing off ."]
+    lines = ["set include BOOL off .", "fmod SHEET is"] + declared(text, tickets) + ["endfm"]
+    lines += ["set show command off .", "set show stats off .", "set show timing off ."]
     lines += [f"red {ticket} ." for ticket in tickets]
     made = subprocess.run(
         ["maude", "-no-banner", "-no-wrap", "-no-advise"], input="\n".join(lines) + "\n", capture_output=True, text=True, timeout=600, check=True
