@@ -5,7 +5,8 @@
 // sibling; the numbers on the right of operators behind the first symbol, arguments first; those on the left of what is dropped, and
 // of what is copied; and how many symbols of each side are no variables. An empty line parts two
 // sheets.
-pub const CASES: &str = "nil, neg and both||nil neg both/0 1 2/1 1 3/- 2 2/- - 1/- - -/rules/||- 0,1,2 3,4,5,6
+pub const CASES: &str =
+    "nil, neg and both||nil neg both/0 1 2/1 1 3/- 2 2/- - 1/- - -/rules/||- 0,1,2 3,4,5,6
 neg(neg(A))=A|( neg( _|>1||||2 0
 neg(nil)=nil|( nil|nil||||2 1
 neg(both(A,B))=both(neg(A),neg(B))|( both( _, _|both( neg(, >1 neg( >2|0 2|||2 3
