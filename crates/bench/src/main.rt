@@ -4,7 +4,7 @@
 #![tactic(auto)]
 
 use anyhow::{Context, anyhow};
-use compiling::rules::compile;
+use compiling::compiled_sheet::CompiledSheet;
 use jobs::{JOBS, Job};
 use measuring::{Measured, Stock, measure};
 use pool::Pool;
@@ -118,7 +118,7 @@ fn run(
         Wish::Speed => (u32::MAX, true),
         Wish::Only(_, allowed) => (allowed, false),
     };
-    let measured = measure(rt, &stock, &compile(&sheet), job.rounds, allowed)?;
+    let measured = measure(rt, &stock, &CompiledSheet::of(&sheet), job.rounds, allowed)?;
     tell(rt, job, measured, speed)
 }
 

@@ -1,6 +1,6 @@
 // How long reducing takes.
 use anyhow::{Context, anyhow};
-use compiled::CompiledRules;
+use compiling::compiled_sheet::CompiledSheet;
 use pool::Pool;
 use std::time::{CpuClock, Duration};
 use terms::node::Node;
@@ -23,7 +23,7 @@ pub(crate) struct Measured {
 pub(crate) fn measure(
     rt: &(impl AllocGlobal + CpuClock),
     stock: &Stock<'_>,
-    rules: &CompiledRules,
+    rules: &CompiledSheet,
     rounds: u32,
     allowed: u32,
 ) -> anyhow::Result<Measured> {
