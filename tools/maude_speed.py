@@ -1,12 +1,11 @@
 #!/usr/bin/env python3
 """How long Maude 3.2 takes over the tickets of the program `bench`, by its own clock.
 
-    tools/maude_speed.py [PROGRAM] [--times N]           (PROGRAM: crates/bench/out/bench)
+    tools/maude_speed.py [PROGRAM]                       (PROGRAM: crates/bench/out/bench)
 
-The rules of a sheet become equations of a functional module; a further equation makes all tickets of the job anew and has them
-reduced, N times. Instruments become constants.
+The rules of a sheet become equations of a functional module; further equations make all tickets of the job anew and have them
+reduced, many times over. Instruments become constants.
 """
-import argparse
 import os
 import re
 import subprocess
@@ -19,8 +18,9 @@ from maude_forms import declared
 
 TOP = os.path.dirname(os.path.dirname(os.path.abspath(__file__)))
 
-# how often the tickets of a job are reduced, by what its caption ends in; else as often as --times says
-FEWER = {"left": 5, "600 b": 3}
+# how often the tickets of a job are reduced, by a word of its caption; else 200 times
+TIMES = {"left": 3, "letters": 3, "doubling": 2_000, "right": 2_000, "500": 1_000}
+
 
 STATS = re.compile(r"rewrites: (\d+) in (\d+)ms cpu")
 
@@ -32,6 +32,10 @@ def jobs(program):
         front, tickets = part.split("\n.\n")
         caption, sheet = front.split("\n", 1)
         yield caption, sheet.replace("\n", "/") + "/", tickets.split("\n")
+
+
+def times_of(caption):
+    return next((n for word, n in TIMES.items() if word in caption.split()), 200)
 
 
 def seconds(text, tickets, times):
@@ -51,13 +55,9 @@ def seconds(text, tickets, times):
 
 
 def main():
-    parser = argparse.ArgumentParser()
-    parser.add_argument("program", nargs="?", default=os.path.join(TOP, "crates/bench/out/bench"))
-    parser.add_argument("--times", type=int, default=500)
-    args = parser.parse_args()
-    for caption, text, tickets in jobs(args.program):
-        times = next((n for end, n in FEWER.items() if caption.endswith(end)), args.times)
-        rewrites, spent = seconds(text, tickets, times)
+    program = sys.argv[1] if len(sys.argv) > 1 else os.path.join(TOP, "crates/bench/out/bench")
+    for caption, text, tickets in jobs(program):
+        rewrites, spent = seconds(text, tickets, times_of(caption))
         print(f"{caption}: {rewrites} steps, {spent * 1e9 / max(rewrites, 1):.1f} ns a step", flush=True)
 
 

@@ -1,6 +1,7 @@
 // Reduces tickets of several kinds many times, and says in how many steps. With the argument `speed` also how long a step takes, by
 // the clock of the processor, which leaves out the time that other programs took; with `show` it writes sheets and tickets instead.
-// With two numbers it does only the job of the first number, with at most so many steps a ticket as the second says.
+// With three numbers it does only the job of the first number, with at most so many steps a ticket as the second says, so many times
+// as the third says.
 #![tactic(auto)]
 
 use anyhow::{Context, anyhow};
@@ -35,8 +36,15 @@ enum Wish {
     Counts,
     Speed,
     Tickets,
-    // of the job of a number, with so many steps a ticket at most
-    Only(usize, u32),
+    Only(Chosen),
+}
+
+// The job of a number, with so many steps a ticket at most, so many times.
+#[derive(Clone, Copy)]
+struct Chosen {
+    job: usize,
+    steps: u32,
+    rounds: u32,
 }
 
 // What the arguments ask for.
@@ -50,7 +58,12 @@ fn asked(rt: &(impl Env + Alloc)) -> anyhow::Result<Wish> {
         "show" => Ok(Wish::Tickets),
         number => {
             let steps = args.next().context("how many steps?")?;
-            Ok(Wish::Only(number.parse()?, steps.as_str().parse()?))
+            let rounds = args.next().context("how many times?")?;
+            Ok(Wish::Only(Chosen {
+                job: number.parse()?,
+                steps: steps.as_str().parse()?,
+                rounds: rounds.as_str().parse()?,
+            }))
         }
     }
 }
@@ -83,13 +96,13 @@ fn show(rt: &impl Print, job: &Job, sheet: &Sheet, stock: &Stock<'_>) -> anyhow:
 // Says how many steps a job took, and with `speed` how long a step.
 fn tell(
     rt: &(impl Print + Eprint),
-    job: &Job,
+    caption: &str,
+    rounds: u32,
     measured: Measured,
     speed: bool,
 ) -> anyhow::Result<()> {
     let Measured { steps, spent } = measured;
-    let caption = job.caption;
-    println!(rt; "{caption}, {} times: {steps} steps", job.rounds)?;
+    println!(rt; "{caption}, {rounds} times: {steps} steps")?;
     if speed {
         let tenths = spent.as_nanos().saturating_mul(10) / u128::from(steps.max(1));
         eprintln!(rt; "{caption}: {}.{} ns a step", tenths / 10, tenths % 10)?;
@@ -112,21 +125,21 @@ fn run(
         pool: &pool,
         places: places.as_slice(),
     };
-    let (allowed, speed) = match wish {
+    let (allowed, rounds, speed) = match wish {
         Wish::Tickets => return show(rt, job, &sheet, &stock),
-        Wish::Counts => (u32::MAX, false),
-        Wish::Speed => (u32::MAX, true),
-        Wish::Only(_, allowed) => (allowed, false),
+        Wish::Counts => (u32::MAX, job.rounds, false),
+        Wish::Speed => (u32::MAX, job.rounds, true),
+        Wish::Only(Chosen { steps, rounds, .. }) => (steps, rounds, false),
     };
-    let measured = measure(rt, &stock, &CompiledSheet::of(&sheet), job.rounds, allowed)?;
-    tell(rt, job, measured, speed)
+    let measured = measure(rt, &stock, &CompiledSheet::of(&sheet), rounds, allowed)?;
+    tell(rt, job.caption, rounds, measured, speed)
 }
 
 fn main(rt: HostRuntime) -> anyhow::Result<()> {
     let wish = asked(&rt)?;
     for (number, job) in JOBS.iter().enumerate() {
         match wish {
-            Wish::Only(chosen, _) if chosen != number => continue,
+            Wish::Only(chosen) if chosen.job != number => continue,
             _ => run(&rt, job, wish)?,
         }
     }
