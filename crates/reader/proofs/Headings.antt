@@ -1,6 +1,6 @@
 -- The steps that read a heading, and the loop.
 use Rattle.std.proofs.Common.{◌≡◌, ℕ, ◌<◌, ◌≤◌, leb, List, [], length, Ok, Err, Result, refl, sym, ap, ◌∙◌, subst}
-use Rattle.std.proofs.lemmas.Bool.{cond_both, leb-true, leb-false}
+use Rattle.std.proofs.lemmas.Bool.{cond_both, cond-false, leb-true, leb-false, lt-leb}
 use Rattle.terms.specs.Signature.{Sig}
 use Rattle.signature.specs.Declaring.{sig_of}
 use Rattle.reading.specs.declared.heading.Stage.TheVariants.{WantsName}
@@ -16,6 +16,10 @@ use Rattle.reader.proofs.Going.{is_err}
 use Rattle.reader.specs.Machine.{Finished}
 use Rattle.reader.specs.Heading.{Heads}
 use Rattle.reading.specs.Heading.{head_run, sheet_limit, read_heading}
+
+pub long_sheet : (text : List ℕ) → 32768 < length text → read_heading text ≡ Err (Text (PastLimit origin))
+unfolding read_heading sheet_limit
+long_sheet text h = cond-false _ _ _ (lt-leb (length text) 32768 h)
 
 -- what the driver answers is what the definition gives
 module _ (text : List ℕ) where

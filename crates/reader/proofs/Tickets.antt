@@ -1,6 +1,6 @@
 -- What reading a ticket answers.
 use Rattle.std.proofs.Common.{◌≡◌, ℕ, ◌<◌, ◌≤◌, leb, List, length, None, Ok, Err, Result, refl, sym, ap, ◌∙◌, subst}
-use Rattle.std.proofs.lemmas.Bool.{cond_both, leb-true, leb-false}
+use Rattle.std.proofs.lemmas.Bool.{cond_both, cond-false, leb-true, leb-false, lt-leb}
 use Rattle.std.specs.Result.{IsErrAnd}
 use Rattle.terms.specs.declared.layout.Layout.{Layout}
 use Rattle.terms.specs.Term.{Term}
@@ -16,6 +16,10 @@ use Rattle.reading.proofs.Reading.{ticket_law}
 use Rattle.reader.proofs.Going.{is_err}
 use Rattle.reader.specs.Machine.{Finished}
 use Rattle.reader.specs.Ticket.{Reads}
+
+pub long_text : (sig : Sig) (text : List ℕ) → 4096 < length text → read_ticket sig text ≡ Err (PastLimit origin)
+unfolding read_ticket ticket_limit
+long_text sig text h = cond-false _ _ _ (lt-leb (length text) 4096 h)
 
 module _ (sig : Sig) (d : Declared sig) (text : List ℕ) where
   -- what is laid out is a ticket, so it stands where it is laid

@@ -4,8 +4,9 @@ ghost use Rattle.reading.specs.HeadingLaw.{OfHeading, HeadingLaw};
 ghost use Rattle.reader.specs.Heading.{Heads};
 
 use crate::machine::read;
-use reading::fault::SheetFault;
+use reading::fault::{SheetFault, TextFault};
 use reading::heading::Stage;
+use reading::token::At;
 use signature::Signature;
 
 mod stepping;
@@ -28,5 +29,9 @@ pub fn read_signature(text: &[u8]) -> Result<Signature, SheetFault>
     ensures law { HeadingLaw text.now }
     ensures fault { IfErr result OfHeading }
 {
+    // First, so that nothing is built for a text that is refused.
+    if text.len() > SHEET_BYTES {
+        return Err(TextFault::PastLimit(At::ORIGIN).into());
+    }
     read(Heading::new(), text)
 }

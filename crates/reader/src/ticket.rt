@@ -65,6 +65,10 @@ pub fn read_ticket(signature: &Signature, text: &[u8]) -> Result<Layout<TICKET_N
     ensures reads { Reads result (read_ticket (sig_of signature.now) text.now) }
     ensures law { TicketLaw (sig_of signature.now) text.now }
 {
+    // First, so that nothing is built for a text that is refused.
+    if text.len() > TICKET_BYTES {
+        return Err(TextFault::PastLimit(At::ORIGIN));
+    }
     let machine = TicketReader {
         signature,
         parser: Parser::new(),

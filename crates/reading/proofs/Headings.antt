@@ -29,8 +29,8 @@ told_next h ks at k g l t e =
     let (a, b) = subst (HeadSaid 32 h k at) e (said_head 32 h at k l t.0) in
     (a, b ∙ ap (λ js. js ++ (k ∷ [])) t.1)
 
-tells : (ks : List Tok) (h : Head) → AllByRecursion Lexed ks → reach_with (head_step 32) ([], WantsName) origin ks ≡ Ok h → Told h ks (passed origin ks)
-tells ks h l e = all_along (head_step 32) Lexed Told told_next ks ([], WantsName) [] origin h l (none 32, refl) e
+tells : (ks : List Tok) (at : At) (h : Head) → AllByRecursion Lexed ks → reach_with (head_step 32) ([], WantsName) at ks ≡ Ok h → Told h ks (passed at ks)
+tells ks at h l e = all_along (head_step 32) Lexed Told told_next ks ([], WantsName) [] at h l (none 32, refl) e
 
 -- the end of a heading
 ends : (h : Head) (at : At) (sig : Sig) → head_end h at ≡ Ok sig → h ≡ (sig, Done)
@@ -39,6 +39,13 @@ ends (s, HasName) at sig e = not_both (sym e)
 ends (s, WantsCount f) at sig e = not_both (sym e)
 ends (s, HasCount f) at sig e = not_both (sym e)
 ends (s, Done) at sig e = ap (λ x. (x, Done)) (same_ok e)
+
+-- an accepted heading has the tokens of the signature that is read
+pub heading_told : (ks : List Tok) (at : At) (sig : Sig) → AllByRecursion Lexed ks → head_run 32 ([], WantsName) at ks ≡ Ok sig → Declared sig × (1 ≤ length sig) × (length sig ≤ 32) × (ks ≡ heading_tokens sig)
+heading_told ks at sig l e =
+    let (h, r, q) = run_ends (head_step 32) head_end ([], WantsName) at ks sig e in
+    let (g, t) = tells ks at (sig, Done) l (r ∙ ap Ok (ends h (passed at ks) sig q)) in
+    (g.0.declared, g.1, g.0.few, sym t)
 
 -- the fault of a token is one of a heading
 fair : (h : Head) (at : At) (k : Tok) (f : SheetFault) → HeadReason 32 h k at f → OfHeading f
@@ -64,15 +71,14 @@ module _ (b : List ℕ) where
 
   accepted_run : (sig : Sig) → head_run 32 ([], WantsName) origin (tokens b) ≡ Ok sig → Heads sig
   accepted_run sig e =
-      let (h, r, q) = run_ends (head_step 32) head_end ([], WantsName) origin (tokens b) sig e in
-      let (g, t) = tells (tokens b) (sig, Done) (tokens_lexed 0 b) (r ∙ ap Ok (ends h (passed origin (tokens b)) sig q)) in
-      (g.0.declared, g.1, g.0.few, sym (whole_heading sig) ∙ ap whole t ∙ whole_tokens 0 b)
+      let (d, some, few, t) = heading_told (tokens b) origin sig (tokens_lexed 0 b) e in
+      (d, some, few, sym (whole_heading sig) ∙ ap whole (sym t) ∙ whole_tokens 0 b)
 
   refused_run : (f : SheetFault) → head_run 32 ([], WantsName) origin (tokens b) ≡ Err f → OfHeading f
   refused_run f e =
       let y = run_stops (head_step 32) head_end ([], WantsName) origin (tokens b) f e in
       let ks : List Tok = take y.before (tokens b) in
-      let z = tells ks y.state (All-take Lexed y.before (tokens b) (tokens_lexed 0 b)) y.there in
+      let z = tells ks origin y.state (All-take Lexed y.before (tokens b) (tokens_lexed 0 b)) y.there in
       fair_stop y.state (passed origin ks) (first_of (drop y.before (tokens b))) f z.0 (first_lexed (drop y.before (tokens b)) (All-drop Lexed y.before (tokens b) (tokens_lexed 0 b))) y.refuses
 
   accepted : (sig : Sig) → read_heading b ≡ Ok sig → Heads sig

@@ -28,7 +28,7 @@ module _ {S E : Type 0} (next : S → At → Tok → Result S E) where
   pub then_reach : (s : S) (at : At) (k : Tok) (ks : List Tok) (u : S) → next s at k ≡ Ok u → reach_with s at (k ∷ ks) ≡ reach_with u (past at k) ks
   then_reach s at k ks u e = ap (λ (r : Result S E). chain r (λ v. reach_with v (past at k) ks)) e
 
-  reach_append : (s : S) (at : At) (ks ls : List Tok) → reach_with s at (ks ++ ls) ≡ chain (reach_with s at ks) (λ u. reach_with u (passed at ks) ls)
+  pub reach_append : (s : S) (at : At) (ks ls : List Tok) → reach_with s at (ks ++ ls) ≡ chain (reach_with s at ks) (λ u. reach_with u (passed at ks) ls)
   reach_append s at [] ls = refl
   reach_append s at (k ∷ ks) ls =
       elim (next s at k) as (λ r. chain r (λ u. reach_with u (past at k) (ks ++ ls)) ≡ chain (chain r (λ u. reach_with u (past at k) ks)) (λ u. reach_with u (passed at (k ∷ ks)) ls))

@@ -119,5 +119,9 @@ module _ {sig : Sig} (good : Declared sig) where
       let (a, b, c) = subst (Keeps sig s k) e (keeps s at k l z.is_good z.place) in
       record { is_good = a; so_far = b ∙ ap (λ js. js ++ (k ∷ [])) z.so_far; place = behind_past (state_tokens sig s) at k (state_tokens sig u) z.place c b }
 
+  -- from any good state at its place
+  pub tells_from : (s : State) (at : At) (ks : List Tok) (u : State) → AllByRecursion Lexed ks → Good sig s → Behind (state_tokens sig s) at → reach sig s at ks ≡ Ok u → Told u (state_tokens sig s ++ ks) (passed at ks)
+  tells_from s at ks u l g p e = all_along (step sig) Lexed Told told_next ks s (state_tokens sig s) at u l (record { is_good = g; so_far = refl; place = p }) e
+
   pub tells : (ks : List Tok) (u : State) → AllByRecursion Lexed ks → reach sig (wants top) origin ks ≡ Ok u → Told u ks (passed origin ks)
-  tells ks u l e = all_along (step sig) Lexed Told told_next ks (wants top) [] origin u l (record { is_good = tt; so_far = refl; place = refl }) e
+  tells ks u l e = tells_from (wants top) origin ks u l tt refl e

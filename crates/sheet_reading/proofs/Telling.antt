@@ -65,8 +65,12 @@ told_next s ks at k u l z e =
     let (a, b) = subst (Said s k) e (said s at k l z.is_good z.place) in
     record { is_good = a; so_far = b ∙ ap (λ js. js ++ (k ∷ [])) z.so_far; place = behind_past (stand_tokens s) at k (stand_tokens u) z.place b }
 
+-- from any good stand at its place
+pub tells_from : (s : Stand) (at : At) (ks : List Tok) (u : Stand) → AllByRecursion Lexed ks → Good s → Behind (stand_tokens s) at → reach limits s at ks ≡ Ok u → Told u (stand_tokens s ++ ks) (passed at ks)
+tells_from s at ks u l g p e = all_along (sheet_step limits) Lexed Told told_next ks s (stand_tokens s) at u l (record { is_good = g; so_far = refl; place = p }) e
+
 pub tells : (ks : List Tok) (u : Stand) → AllByRecursion Lexed ks → reach limits start origin ks ≡ Ok u → Told u ks (passed origin ks)
-tells ks u l e = all_along (sheet_step limits) Lexed Told told_next ks start [] origin u l (record { is_good = none 32; so_far = refl; place = refl }) e
+tells ks u l e = tells_from start origin ks u l (none 32) refl e
 
 -- the cause of a refusal
 

@@ -4,6 +4,7 @@ ghost use Rattle.reading.specs.Tokens.{a_name, a_number};
 ghost use Rattle.reading.specs.declared.heading.Stage.TheVariants.{WantsName, Done};
 ghost use Rattle.terms.specs.Signature.{Sig};
 ghost use Rattle.reading.specs.Heading.{Head, wants_name, wants_count, head_step, head_end};
+ghost use Rattle.lexer.specs.Lexing.{meaning};
 ghost use Rattle.reader.specs.Heading.{head_of, Headed, why_not};
 
 use super::{Heading, SHEET_BYTES};
@@ -76,6 +77,29 @@ impl Heading {
     {
         usize::from(operator) + 1 < self.signature.len()
     }
+
+    // One token, at any place: more than the step of a machine promises.
+    pub fn advance(&mut self, lexeme: Lexeme) -> Result<(), SheetFault>
+        ensures { Headed result (head_step 32 (head_of self.old) lexeme.entry.at (meaning lexeme.entry.token)) (head_of self.new) }
+    {
+        match (self.stage, lexeme.token) {
+            (Stage::WantsName, Token::Name(name)) => return self.take_name(name, lexeme.at),
+            (Stage::HasName, Token::Mark(Mark::Blank)) => self.stage = Stage::WantsName,
+            (Stage::HasName, Token::Mark(Mark::LineEnd)) => self.stage = Stage::WantsCount(0),
+            (Stage::WantsCount(operator), Token::Number(digits)) => {
+                return self.take_count(operator, digits, lexeme.at);
+            }
+            (Stage::HasCount(operator), Token::Mark(Mark::Blank)) if self.is_followed(operator) => {
+                self.stage = Stage::WantsCount(operator + 1);
+            }
+            (Stage::HasCount(operator), Token::Mark(Mark::LineEnd))
+                if !self.is_followed(operator) => {
+                self.stage = Stage::Done;
+            }
+            _ => return Err(lexeme.unexpected().into()),
+        }
+        Ok(())
+    }
 }
 
 impl Machine for Heading {
@@ -100,23 +124,7 @@ impl Machine for Heading {
     }
 
     fn step(&mut self, lexeme: Lexeme) -> Result<(), SheetFault> {
-        match (self.stage, lexeme.token) {
-            (Stage::WantsName, Token::Name(name)) => return self.take_name(name, lexeme.at),
-            (Stage::HasName, Token::Mark(Mark::Blank)) => self.stage = Stage::WantsName,
-            (Stage::HasName, Token::Mark(Mark::LineEnd)) => self.stage = Stage::WantsCount(0),
-            (Stage::WantsCount(operator), Token::Number(digits)) => {
-                return self.take_count(operator, digits, lexeme.at);
-            }
-            (Stage::HasCount(operator), Token::Mark(Mark::Blank)) if self.is_followed(operator) => {
-                self.stage = Stage::WantsCount(operator + 1);
-            }
-            (Stage::HasCount(operator), Token::Mark(Mark::LineEnd))
-                if !self.is_followed(operator) => {
-                self.stage = Stage::Done;
-            }
-            _ => return Err(lexeme.unexpected().into()),
-        }
-        Ok(())
+        self.advance(lexeme)
     }
 
     fn finish(self, at: At) -> Result<Signature, SheetFault> {

@@ -7,7 +7,7 @@ ghost use Rattle.reading.specs.Numbers.{instrument_number};
 ghost use Rattle.reading.specs.Reading.{Context, top, State, wants, opens, has, on_wants, with_number, on_opens_mark, needless, closed, continued, step, ending};
 ghost use Rattle.reader.specs.declared.parser.Phase.TheVariants.{Opens, Has};
 ghost use Rattle.lexer.specs.Lexing.{meaning};
-ghost use Rattle.reader.specs.Machine.{Finished};
+ghost use Rattle.reader.specs.Machine.{Stepped, Finished};
 ghost use Rattle.terms.specs.Layout.{LaysOut};
 ghost use Rattle.reader.specs.Parsing.{Holds, Leaf, Takes, Moves};
 
@@ -115,7 +115,7 @@ impl Parser {
 
     // ')' behind a term.
     fn close(&mut self, at: At) -> Result<(), TextFault>
-        ensures { (t : Term) (m : Option At) (k : Context) → Takes self.old (has t m k) at result (closed t k at) self.new }
+        ensures { (t : Term) (m : Option At) (k : Context) → Holds self.old (has t m k) → Stepped result (closed t k at) (Holds self.new) }
     {
         let frame = self.frames.pop().ok_or(TextFault::Unexpected(at))?;
         if frame.left > 0 {

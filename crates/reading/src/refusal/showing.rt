@@ -47,16 +47,25 @@ fn placed(number: u8, layer: Layer, at: At) -> Refusal
     }
 }
 
-impl fmt::Display for Layer {
-    ghost output = { λ l. Some (layer_text l) };
-
-    fn fmt<W: fmt::Write>(&self, f: &mut fmt::Formatter<W>) -> fmt::Result {
-        f.write_str(match self {
+impl Layer {
+    // The layer's name in a printed refusal.
+    pub fn name(self) -> &'static str
+        ensures { result.now ≡ layer_text self }
+    {
+        match self {
             Layer::Text => "text",
             Layer::Sheet => "sheet",
             Layer::Pool => "pool",
             Layer::Book => "book",
-        })
+        }
+    }
+}
+
+impl fmt::Display for Layer {
+    ghost output = { λ l. Some (layer_text l) };
+
+    fn fmt<W: fmt::Write>(&self, f: &mut fmt::Formatter<W>) -> fmt::Result {
+        f.write_str(self.name())
     }
 }
 
