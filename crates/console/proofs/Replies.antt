@@ -18,11 +18,14 @@ use Rattle.traversal.specs.declared.unwritten.Unwritten.{Unwritten}
 use Rattle.traversal.specs.declared.unwritten.Unwritten.TheVariants.{NoTerm, TooShort}
 use Rattle.traversal.specs.Walks.{most_symbols, Written}
 
+pub few_symbols : (n : ℕ) → n ≤ 2048 → n ≤ most_symbols
+unfolding most_symbols
+few_symbols n h = omega arith
+
 module _ (sig : Sig) (v : Answers) (before after : List ℕ) (t : Term) (stands : Stands v 0 t) where
   -- a term that stands there and fits the buffer is written
-  pub written : symbols t ≤ 2048 → length (text_of sig t) ≤ length before → (e : Unwritten) → Written sig v 0 before after (Err e) → ⊥
-  unfolding most_symbols
-  written small fits NoTerm w = w.0 t (stands, omega arith)
+  pub written : symbols t ≤ most_symbols → length (text_of sig t) ≤ length before → (e : Unwritten) → Written sig v 0 before after (Err e) → ⊥
+  written small fits NoTerm w = w.0 t (stands, small)
   written small fits TooShort w =
       let (u, s, short) = w.0 in
       omega (arith, short, ap (λ x. length (text_of sig x)) (one_at_a_place v 0 u t s.0 stands))

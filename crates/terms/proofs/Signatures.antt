@@ -27,13 +27,13 @@ HasName o = spelt o.name ≡ true
 abbrev HasFew : Op → Type 0
 HasFew o = o.arity ≤ 3
 
-spelt_push : (sig : Sig) (s : List ℕ) (n : ℕ) → Spelt sig → spelt s ≡ true → Spelt (more sig s n)
+pub spelt_push : (sig : Sig) (s : List ℕ) (n : ℕ) → Spelt sig → spelt s ≡ true → Spelt (more sig s n)
 spelt_push sig s n a e f = All-push HasName sig (record { name = s; arity = n }) (All-from_get_or HasName sig nameless a) e f _
 
-ranked_push : (sig : Sig) (s : List ℕ) (n : ℕ) → Ranked sig → n ≤ 3 → Ranked (more sig s n)
+pub ranked_push : (sig : Sig) (s : List ℕ) (n : ℕ) → Ranked sig → n ≤ 3 → Ranked (more sig s n)
 ranked_push sig s n a l f = All-push HasFew sig (record { name = s; arity = n }) (All-from_get_or HasFew sig nameless a) l f _
 
-apart_push : (sig : Sig) (s : List ℕ) (n : ℕ) → Apart sig → found sig s ≡ None → Apart (more sig s n)
+pub apart_push : (sig : Sig) (s : List ℕ) (n : ℕ) → Apart sig → found sig s ≡ None → Apart (more sig s n)
 apart_push sig s n a e f g h =
     let many = length_push sig (record { name = s; arity = n }) in
     let new : (k : ℕ) → length sig ≡ k → (op_of (more sig s n) k).name ≡ s = λ k l. ap (λ (o : Op). o.name) (get_or_push sig _ _ k l) in
@@ -58,15 +58,15 @@ same_name sig f n g h =
     (λ d. ap (λ (o : Op). o.name) (get_or-set_other sig f g _ _ d))
     (cases_eq g f)
 
-spelt_again : (sig : Sig) (f n : ℕ) → f < length sig → Spelt sig → Spelt (again sig f n)
+pub spelt_again : (sig : Sig) (f n : ℕ) → f < length sig → Spelt sig → Spelt (again sig f n)
 spelt_again sig f n h a g = All-set HasName sig f _ (a f h) (All-from_get_or HasName sig nameless a) g _
 
-apart_again : (sig : Sig) (f n : ℕ) → f < length sig → Apart sig → Apart (again sig f n)
+pub apart_again : (sig : Sig) (f n : ℕ) → f < length sig → Apart sig → Apart (again sig f n)
 apart_again sig f n h a i j k =
     let same = length-set sig f (record { name = (op_of sig f).name; arity = n }) in
     a i j (omega arith, omega arith, sym (same_name sig f n i h) ∙ k.2 ∙ same_name sig f n j h)
 
-ranked_again : (sig : Sig) (f n : ℕ) → f < length sig → n ≤ 3 → Ranked sig → Ranked (again sig f n)
+pub ranked_again : (sig : Sig) (f n : ℕ) → f < length sig → n ≤ 3 → Ranked sig → Ranked (again sig f n)
 ranked_again sig f n h l a g = All-set HasFew sig f _ l (All-from_get_or HasFew sig nameless a) g _
 
 pub declared_again : (sig : Sig) (f n : ℕ) → f < length sig → n ≤ 3 → Declared sig → Declared (again sig f n)

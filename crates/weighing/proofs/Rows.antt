@@ -27,24 +27,24 @@ put_if true vs i g v x d h e = put_one vs i g x d h ∙ ap (λ y. cond (eqb g i)
 put_if false vs i g v x d h e = ap (λ y. get_or (set vs i y) g d) e ∙ ap (λ ys. get_or ys g d) (set-get_or vs i d)
 
 -- one value of one row is another
-values_put : (rows : List Row) (i f : ℕ) (row new : Row) (line : ℕ) (v : Value) → i ≡ f → i < length rows → row ≡ get_or rows i row → ((l : ℕ) → entry_of new l ≡ cond (eqb l line) v (entry_of row l)) → (l g : ℕ) → get_or (values_in (set rows i new) l) g (neutral_in l) ≡ cond (eqb l line && eqb g f) v (get_or (values_in rows l) g (neutral_in l))
-values_put rows i f row new line v at h is e l g =
+pub values_put : (rows : List Row) (i f : ℕ) (row d new : Row) (line : ℕ) (v : Value) → i ≡ f → i < length rows → row ≡ get_or rows i d → ((l : ℕ) → entry_of new l ≡ cond (eqb l line) v (entry_of row l)) → (l g : ℕ) → get_or (values_in (set rows i new) l) g (neutral_in l) ≡ cond (eqb l line && eqb g f) v (get_or (values_in rows l) g (neutral_in l))
+values_put rows i f row d new line v at h is e l g =
     let entry : Row → Value = λ r. entry_of r l in
-    let same : entry row ≡ get_or (values_in rows l) i (neutral_in l) = ap entry is ∙ sym (get_or-map entry rows i row (neutral_in l) h) in
+    let same : entry row ≡ get_or (values_in rows l) i (neutral_in l) = ap entry is ∙ sym (get_or-map entry rows i d (neutral_in l) h) in
     ap (λ vs. get_or vs g (neutral_in l)) (map-set entry rows i new)
     ∙ put_if (eqb l line) (values_in rows l) i g v (entry new) (neutral_in l) (omega (arith, length-map rows entry)) (e l ∙ ap (cond (eqb l line) v) same)
     ∙ ap (λ k. cond (eqb l line && eqb g k) v (get_or (values_in rows l) g (neutral_in l))) at
 
 -- the values of rows of which one is given another base
 pub values_rebased : (rows : List Row) (i f : ℕ) (row new : Row) (b : ℕ) → i ≡ f → i < length rows → row ≡ get_or rows i row → new.base.value ≡ b → new.factors ≡ row.factors → (l g : ℕ) → get_or (values_in (set rows i new) l) g (neutral_in l) ≡ cond (eqb l 0 && eqb g f) (Some b) (get_or (values_in rows l) g (neutral_in l))
-values_rebased rows i f row new b at h is e same = values_put rows i f row new 0 (Some b) at h is put where
+values_rebased rows i f row new b at h is e same = values_put rows i f row row new 0 (Some b) at h is put where
   put : (l : ℕ) → entry_of new l ≡ cond (eqb l 0) (Some b) (entry_of row l)
   put zero = ap Some e
   put (suc n) = grind (arith, common_steps)
 
 -- and of which one is given another factor
 pub values_refactored : (rows : List Row) (i f : ℕ) (row new : Row) (n : ℕ) (factor : _) (v : Value) → i ≡ f → i < length rows → row ≡ get_or rows i row → n < length row.factors → written factor ≡ v → new.base ≡ row.base → new.factors ≡ set row.factors n factor → (l g : ℕ) → get_or (values_in (set rows i new) l) g (neutral_in l) ≡ cond (eqb l (suc n) && eqb g f) v (get_or (values_in rows l) g (neutral_in l))
-values_refactored rows i f row new n factor v at h is within e base factors = values_put rows i f row new (suc n) v at h is put where
+values_refactored rows i f row new n factor v at h is within e base factors = values_put rows i f row row new (suc n) v at h is put where
   put : (l : ℕ) → entry_of new l ≡ cond (eqb l (suc n)) v (entry_of row l)
   put zero = grind (arith, common_steps)
   put (suc m) =

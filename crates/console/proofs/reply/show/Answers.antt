@@ -5,14 +5,14 @@ use Rattle.terms.specs.Nodes.{node_answers}
 use Rattle.terms.specs.Layout.{in_use}
 use Rattle.signature.proofs.Operators.{declared}
 use Rattle.console.specs.Replies.{ticket_line}
-use Rattle.console.proofs.Replies.{written, front, utf8_text}
+use Rattle.console.proofs.Replies.{few_symbols, written, front, utf8_text}
 use Rattle.console.proofs.reply.show.Goals as goal
 
 pub unreachable-requires : goal.unreachable-requires
 unreachable-requires c =
     let h = c.requires in
     let l = c.len-symbols.ensures in
-    written (sig_of c.args.signature.now) (node_answers (in_use c.args.ticket.now)) c.args.buffer.now c.write_text.new.buffer h.ticket h.stands (omega arith) h.fits c.in_default.field-0 c.in_default.ensures
+    written (sig_of c.args.signature.now) (node_answers (in_use c.args.ticket.now)) c.args.buffer.now c.write_text.new.buffer h.ticket h.stands (few_symbols _ (omega arith)) h.fits c.in_default.field-0 c.in_default.ensures
 
 pub unreachable-requires-in_default-from_utf8 : goal.unreachable-requires-in_default-from_utf8
 unreachable-requires-in_default-from_utf8 c =
