@@ -78,7 +78,7 @@ impl Heading {
         usize::from(operator) + 1 < self.signature.len()
     }
 
-    // One token, at any place: more than the step of a machine promises.
+    // One token, at any place. A machine's step promises this within its limit alone.
     pub fn advance(&mut self, lexeme: Lexeme) -> Result<(), SheetFault>
         ensures { Headed result (head_step 32 (head_of self.old) lexeme.entry.at (meaning lexeme.entry.token)) (head_of self.new) }
     {
