@@ -18,6 +18,7 @@ use Rattle.traversal.specs.declared.unwritten.Unwritten.{Unwritten}
 use Rattle.traversal.specs.declared.unwritten.Unwritten.TheVariants.{NoTerm, TooShort}
 use Rattle.traversal.specs.Walks.{most_symbols, Written}
 
+-- a ticket that was read can be walked
 pub few_symbols : (n : ℕ) → n ≤ 2048 → n ≤ most_symbols
 unfolding most_symbols
 few_symbols n h = omega arith

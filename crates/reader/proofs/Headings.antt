@@ -17,6 +17,7 @@ use Rattle.reader.specs.Machine.{Finished}
 use Rattle.reader.specs.Heading.{Heads}
 use Rattle.reading.specs.Heading.{head_run, sheet_limit, read_heading}
 
+-- a text that is too long is refused for that
 pub long_sheet : (text : List ℕ) → 32768 < length text → read_heading text ≡ Err (Text (PastLimit origin))
 unfolding read_heading sheet_limit
 long_sheet text h = cond-false _ _ _ (lt-leb (length text) 32768 h)

@@ -17,6 +17,7 @@ use Rattle.reader.proofs.Going.{is_err}
 use Rattle.reader.specs.Machine.{Finished}
 use Rattle.reader.specs.Ticket.{Reads}
 
+-- a text that is too long is refused for that
 pub long_text : (sig : Sig) (text : List ℕ) → 4096 < length text → read_ticket sig text ≡ Err (PastLimit origin)
 unfolding read_ticket ticket_limit
 long_text sig text h = cond-false _ _ _ (lt-leb (length text) 4096 h)

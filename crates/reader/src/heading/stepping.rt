@@ -1,4 +1,4 @@
-ghost use Rattle.std.specs.Prelude.{◌≡◌, ◌↔◌, suc, [], length, nat_lt, IsTrue};
+ghost use Rattle.std.specs.Prelude.{◌≡◌, ◌↔◌, suc, [], length, nat_lt, IsTrue, OnErr};
 ghost use Rattle.signature.specs.Declaring.{sig_of};
 ghost use Rattle.reading.specs.Tokens.{a_name, a_number};
 ghost use Rattle.reading.specs.declared.heading.Stage.TheVariants.{WantsName, Done};
@@ -51,7 +51,8 @@ impl Heading {
 
     // A name, where one may come.
     fn take_name(&mut self, name: Name, at: At) -> Result<(), SheetFault>
-        ensures { Headed result (wants_name 32 (a_name name.entry.bytes.now) (sig_of self.old.signature) at) (head_of self.new) }
+        ensures next { Headed result (wants_name 32 (a_name name.entry.bytes.now) (sig_of self.old.signature) at) (head_of self.new) }
+        ensures kept { OnErr result (head_of self.new ≡ head_of self.old) }
     {
         self.signature
             .declare(name.bytes)
@@ -62,7 +63,8 @@ impl Heading {
 
     // A count, where that of an operator may come.
     fn take_count(&mut self, operator: u8, digits: &[u8], at: At) -> Result<(), SheetFault>
-        ensures { Headed result (wants_count (a_number digits.now) (sig_of self.old.signature) operator at) (head_of self.new) }
+        ensures next { Headed result (wants_count (a_number digits.now) (sig_of self.old.signature) operator at) (head_of self.new) }
+        ensures kept { OnErr result (head_of self.new ≡ head_of self.old) }
     {
         let count = number(digits, LARGEST_COUNT).ok_or(TextFault::BadNumber(at))?;
         // The count is at most 3, and so is kept; where no such operator is declared nothing is set, as in the definition.
@@ -78,9 +80,10 @@ impl Heading {
         usize::from(operator) + 1 < self.signature.len()
     }
 
-    // One token, at any place. A machine's step promises this within its limit alone.
+    // One token, at any place, where a machine's step promises this within its limit alone. After a refusal all is as it was.
     pub fn advance(&mut self, lexeme: Lexeme) -> Result<(), SheetFault>
-        ensures { Headed result (head_step 32 (head_of self.old) lexeme.entry.at (meaning lexeme.entry.token)) (head_of self.new) }
+        ensures next { Headed result (head_step 32 (head_of self.old) lexeme.entry.at (meaning lexeme.entry.token)) (head_of self.new) }
+        ensures kept { OnErr result (head_of self.new ≡ head_of self.old) }
     {
         match (self.stage, lexeme.token) {
             (Stage::WantsName, Token::Name(name)) => return self.take_name(name, lexeme.at),
