@@ -1,6 +1,7 @@
-ghost use Rattle.std.specs.Prelude.{◌≡◌, suc, [], ◌∷◌, ◌≤◌, length, take};
+ghost use Rattle.std.specs.Prelude.{◌≡◌, false, suc, [], ◌∷◌, ◌≤◌, length, take};
 ghost use Rattle.fixed_vec.specs.FixedVec.{items};
 ghost use Rattle.terms.specs.Term.{Term};
+ghost use Rattle.compiled.specs.declared.Source.TheVariants.{Moved};
 ghost use Rattle.terms.specs.Rule.{Rule};
 ghost use Rattle.sheet.specs.Rules.{rule_of};
 ghost use Rattle.compiled.specs.Symbols.{parts_under};
@@ -27,8 +28,13 @@ const NO_PIECE: Piece = Piece {
     has_next: false,
 };
 
-// A plan that is never read.
-pub fn blank() -> Plan {
+// What stands in the slots of plans that are not in use: nothing to look for or to make.
+pub fn blank() -> Plan
+    ensures sought { (result.has_first ≡ false) × (items result.checks ≡ []) }
+    ensures made { (result.root ≡ record { source = Moved 0; has_first = false; has_next = false }) × (items result.pieces ≡ []) × (items result.visits ≡ []) }
+    ensures moved { (items result.dropped ≡ []) × (items result.copied ≡ []) }
+    ensures counted { (result.before ≡ 0) × (result.after ≡ 0) }
+{
     Plan {
         has_first: false,
         checks: FixedVec::new(NO_CHECK),
